@@ -75,7 +75,8 @@ line.just' 'tab	.just' ' blanks ' 'üñí.just'; do
 done
 
 put -- "$formatted"; put -n.just "$unformatted"; put - "$unformatted"
-run -n.just; row 'a name with - is no name without --' "$status $(cat ../errors)" '3 usage: justfiles [--check | --diff | --list] [FILE..]'
+run -n.just; row 'a name with - is no name without --' "$status $(cat ../errors)" '3 error: unexpected argument: -n.just
+see justfiles --help'
 run - < /dev/null; row '- is no file without --' "$status $(text -)" "0 $unformatted."
 run -- - -n.just; row 'after -- both are files' "$status $(text -)$(text -n.just)" "0 $formatted.$formatted."
 run --check --diff x; row 'two options' "$status" 3
@@ -85,6 +86,22 @@ mkdir -p below/below; put .JustFile "$unformatted"
 (cd below/below && justfiles --check) > ../output; row 'without a file the justfile above is checked' "$? $(cat ../output)" '1 ../../.JustFile'
 (cd below/below && justfiles); row 'and formatted' "$? $(text .JustFile)" "0 $formatted."
 put justfile "$unformatted"; run; row 'not where a folder has two' "$status $(text justfile)" "3 $unformatted."
+row 'and both are named' "$(grep -c 'justfile and .JustFile\|.JustFile and justfile' ../errors)" 1
+if command -v python3 > /dev/null; then
+    cat > ../far.py <<'END'
+import os, subprocess
+os.remove(".JustFile")
+for _ in range(24):
+    os.mkdir("n" * 200), os.chdir("n" * 200)
+print(subprocess.run(["justfiles", "--check"], capture_output=True, text=True).stdout == "../" * 24 + "justfile\n")
+for _ in range(24):
+    os.chdir(".."), os.rmdir("n" * 200)
+open(".JustFile", "w")
+END
+    row 'from a folder of a long path' "$(python3 ../far.py)" True
+fi
+mkdir "$(printf 'n\377')"; (cd "$(printf 'n\377')" && rm ../.JustFile && justfiles --check) > ../output; row 'and from one whose path is not UTF-8' "$? $(cat ../output)" '1 ../justfile'
+rmdir "$(printf 'n\377')"; put .JustFile ''
 rm -r .JustFile justfile below
 stream() {
     printf '%s' "$1" > ../input; shift; justfiles "$@" < ../input > ../output 2> ../errors
@@ -100,6 +117,16 @@ stream "$unformatted" --name -; row 'a name without a stream' "$status $(cat ../
 justfiles - < ../input > /dev/full 2> ../errors; row 'a stream that cannot be written' "$? $(grep -c '^error: ' ../errors)" '3 1'
 run --help; row '--help' "$status $(grep -c '^usage: justfiles ' ../output) $(cat ../errors)" '0 1 '
 run --version; row '--version' "$status $(grep -c '^justfiles' ../output) $(cat ../errors)" '0 1 '
+run -h; row '-h' "$status $(grep -c '^usage: justfiles ' ../output)" '0 1'
+run -V; row '-V' "$status $(grep -c '^justfiles, commit ' ../output)" '0 1'
+for words in '--chek' '--check --diff' '- a' '--name x a' 'a --list'; do
+    run $words; row "$words: what is wrong is named" "$status $(cat ../errors)" "3 error: unexpected argument: ${words##* }
+see justfiles --help"
+done
+run --name; row 'a missing argument' "$status $(cat ../errors)" '3 error: an argument is missing at the end
+see justfiles --help'
+printf '%s' "$unformatted" > ../input; { justfiles - < ../input 2> ../errors; echo $? > ../status; } | true
+row 'a stream that nobody reads' "$(cat ../status) $(grep -c "^error: justfile: can't be written: " ../errors)" '3 1'
 
 put a.just "$unformatted"; put b.just "$formatted"; put c.just "$unformatted"; ln -s a.just also.just
 run --list a.just b.just c.just also.just
@@ -128,7 +155,9 @@ run a.just "$garbled" c.just
 row 'a name that is not UTF-8 is named, and the others are done' "$status $(text a.just)$(text c.just)$(text "$garbled")$(cat ../errors)" \
     "3 $formatted.$formatted.$unformatted.error: b�d.just: can't be read: its name isn't UTF-8"
 run "$garbled"; row 'alone it is named too' "$status $(cat ../errors)" "3 error: b�d.just: can't be read: its name isn't UTF-8"
-stream "$unformatted" --check --name "$garbled" -; row 'for a stream it is a name in messages' "$status $(cat ../output)" '1 b�d.just'
+put 'b�d.just' "$unformatted"; run "$garbled" 'b�d.just'
+row 'a name that looks like it is another' "$status $(text 'b�d.just')$(cat ../errors)" "3 $formatted.error: b�d.just�: can't be read: its name isn't UTF-8"
+rm 'b�d.just'; stream "$unformatted" --check --name "$garbled" -; row 'for a stream it is a name in messages' "$status $(cat ../output)" '1 b�d.just'
 rm "$garbled"
 escape=$(printf 'e\033[31m.just'); put "$escape" "$unformatted"; run --check "$escape"
 row 'control characters of a name are shown' "$status $(cat ../output)" '1 e\u{1b}[31m.just'
@@ -181,9 +210,40 @@ row 'a file that is not UTF-8' "$status $(cat ../errors)" '3 error: bytes.just: 
  ——▶ bytes.just:1:1'
 printf 'a := "\303\274"\nb := "\303\274\303"\n' > bytes.just; run bytes.just
 row 'its line and column' "$status $(tail -n 1 ../errors)" '3  ——▶ bytes.just:2:9'
-mkdir folder.just; run folder.just; row 'a folder' "$status" 3
+mkdir folder.just; run folder.just; row 'a folder without justfiles' "$status $(cat ../errors)" "3 error: folder.just: can't be read: no justfile was found in it"
 mkfifo pipe.just; { printf '%s' "$unformatted" > pipe.just & }; run pipe.just
 row 'a pipe is not replaced' "$status $(test -p pipe.just && echo pipe)" '3 pipe'
+
+# the justfiles of a folder
+mkdir -p tree/.git tree/b/c tree/empty outside; ln -s ../outside tree/linked; ln -s ../../outside/justfile tree/b/linked.just; mkfifo tree/pipe.just
+for name in tree/Justfile tree/.JUSTFILE tree/b/a.JUST tree/b/c/z.just tree/b/c/justfile tree/b-c.just outside/justfile tree/.git/x.just tree/notes tree/b/just tree/b/ajustfile; do
+    put "$name" "$unformatted"
+done
+run --check tree
+row 'a folder: its justfiles and those below, in order' "$status $(cat ../output)" '1 tree/.JUSTFILE
+tree/Justfile
+tree/b-c.just
+tree/b/a.JUST
+tree/b/c/justfile
+tree/b/c/z.just'
+(cd tree && justfiles --check .) > ../output; row 'the folder that one is in' "$? $(tail -n 1 ../output)" '1 ./b/c/z.just'
+run --list tree/b/ tree/Justfile tree/b
+row 'folders and files, in the order of the arguments' "$status $(cat ../output)" '0 tree/b/a.JUST
+tree/b/c/justfile
+tree/b/c/z.just
+tree/Justfile'
+put tree/b/c/justfile "$broken"; run --check tree; row 'a rejected justfile of a folder' "$status $(wc -l < ../output) $(grep -c 'tree/b/c/justfile:1:16$' ../errors)" '2 2 1'
+put "$(printf 'tree/b/g\377.just')" "$formatted"; put "$(printf 'tree/b/g\377.txt')" x; run --check tree/b
+row 'a name in a folder that is not UTF-8' "$status $(grep -v ' [^e]' ../errors | grep -c .) $(grep -c "tree/b/g.*.just: can't be read: its name isn't UTF-8" ../errors)" '3 0 1'
+if [ "$(id -u)" = 0 ] && mount --bind outside tree/empty 2> /dev/null; then
+    put ../mounted "$unformatted"; : > tree/on.just; mount --bind ../mounted tree/on.just; : > ../mounted; put ../mounted "$unformatted"
+    run --check tree; row 'what is mounted in a folder is left out' "$(grep -c 'empty\|on.just' ../output)" 0
+    umount tree/empty tree/on.just
+fi
+rm -r tree outside
+mkdir many; i=0; while [ $i -lt 10000 ]; do put "many/$i.just" "$unformatted"; i=$((i + 1)); done
+run --check many; row 'a folder of 10,000 files' "$status $(wc -l < ../output) $(LC_ALL=C sort -c ../output && echo sorted)" '1 10000 sorted'
+rm -r many
 
 mkdir sub; put sub/target.just "$unformatted"; ln -s sub/target.just link.just; ln -s nowhere dangling.just
 run link.just
@@ -221,6 +281,42 @@ put secret 'a secret'; put planted.just "$unformatted"; ln -s secret planted.jus
 row 'a link at the name of the new file is not followed' "$status $(text planted.just)$(text secret)" "0 $formatted.a secret."
 rm planted.just.0.new
 row 'no other file is left over' "$(ls -A | grep -c '\.new$\|\.old$')" 0
+
+# what others do meanwhile
+if command -v python3 > /dev/null; then
+    cat > ../swap.py <<'END'
+import ctypes, sys
+swap = ctypes.CDLL(None).renameat2
+one, other = (name.encode() for name in sys.argv[1:])
+while swap(-100, one, -100, other, 2) == 0:
+    pass
+END
+    mkdir held private; ln -s private held.other; exec 5< held
+    for there in "$formatted" ''; do
+        python3 ../swap.py held held.other & swapper=$!
+        wrong=0; i=0
+        while [ $i -lt 600 ]; do
+            rm -f private/*; [ -z "$there" ] || put private/justfile "$there"
+            put /proc/$$/fd/5/justfile "b:='own'
+"
+            justfiles held/justfile 2> /dev/null > ../output
+            [ "$(cat private/* 2> /dev/null; echo .)" = "$there." ] || wrong=$((wrong + 1))
+            i=$((i + 1))
+        done
+        kill $swapper; wait $swapper 2> /dev/null
+        what=planted; [ -z "$there" ] || what=overwritten
+        row "a folder is swapped, 600 runs: nothing is $what" "$wrong" 0
+    done
+    exec 5<&-; rm -r held held.other private
+fi
+wrong=0; i=0
+while [ $i -lt 200 ]; do
+    put withdrawn.just "$unformatted"; chmod 644 withdrawn.just
+    justfiles withdrawn.just 2> /dev/null & chmod 600 withdrawn.just; wait $!
+    [ "$(stat -c %a withdrawn.just)" = 600 ] || wrong=$((wrong + 1))
+    rm -f withdrawn.just*; i=$((i + 1))
+done
+row 'permissions that are withdrawn meanwhile stay so, 200 times' "$wrong" 0
 
 # an output that goes away
 mkdir many; i=0; while [ $i -lt 3000 ]; do put "many/a-name-that-is-long-enough-$i.just" "$unformatted"; i=$((i + 1)); done
@@ -275,6 +371,38 @@ if command -v strace > /dev/null && traced true; then
     traced -e inject=pwrite64:error=EIO:when=2+ justfiles linked.just
     row 'an error names the copy of what cannot be put back' "$? $(text linked.just.0.old)$(grep -c 'its text is in linked.just.0.old' ../errors)" "3 $unformatted.1"
     rm -f linked.*
+
+    # its text is shorter by its last line, which is so often a line of the recipe
+    torn='a           :
+    echo x
+'; whole='a:
+    echo x
+'
+    wrong=; left=
+    for call in pwrite64 fsync fdatasync ftruncate unlink; do
+        for number in 1 2 3 4 5 6; do
+            rm -f torn.*; put torn.just "$torn"; ln torn.just torn.too
+            (traced -e inject=$call:signal=KILL:when=$number justfiles torn.just) 2> /dev/null
+            case $(text torn.just) in
+            "$torn." | "$whole.") continue ;;
+            esac
+            run --check torn.just; [ "$status" -gt 1 ] || wrong="$wrong $call:$number"
+            left=$(cat ../errors)
+        done
+    done
+    row 'what a kill leaves in place is no justfile' "$wrong" ''
+    row 'and its copy is told' "$left" \
+        "error: torn.just: can't be read: it is half written: its text is in the copy beside it that ends in .0.old"
+    rm -f torn.*; put left.just "$unformatted"; ln left.just left.too
+    traced -e inject=unlink:error=EACCES justfiles left.just
+    row 'a copy that cannot be removed is named' "$? $(text left.just)$(cat ../errors)" "3 $formatted.error: left.just.0.old: can't be removed"
+    rm -f left.*; mkdir ../temporary; put "$long" "$unformatted"
+    TMPDIR=../temporary traced -e inject=unlink:error=EACCES justfiles "$long"
+    row 'one elsewhere says whose it is' "$? $(ls ../temporary)" "3 justfiles.$(printf '%032d' 0).0.old"
+    rm "$long"; put piped.just "$unformatted"; { sleep 0.5; rm piped.just; mkfifo piped.just; } &
+    timeout 30 strace -f -o ../trace -e inject=fsync:delay_enter=1500000 justfiles piped.just 2> ../errors; status=$?; wait
+    row 'a pipe that is put in its place' "$status $(cat ../errors)" '3 error: piped.just: changed meanwhile'
+    rm -f piped.*
 fi
 
 # files may have one block
@@ -348,8 +476,14 @@ d := "4"
     printf 'name:="x"\r\n' > justfile; edit -c write; row 'Vim saves CRLF as LF' "$(text justfile)" "$formatted."
     put justfile "$unformatted"; PATH=$(echo "$PATH" | cut -d: -f2-) edit -c 'redir! > ../messages' -c write -c 'redir END'
     row 'Vim tells that there is no program' "$(text justfile) $(grep -c 'justfiles.*not found' ../messages)" "$unformatted. 1"
-    edit -c 'source ../vimrc' -c 'redir! > ../messages' -c 'autocmd justfmt BufWritePre *.just' -c 'redir END'
+    edit -c 'source ../vimrc' -c 'redir! > ../messages' -c 'autocmd justfmt BufWritePre' -c 'redir END'
     row 'sourced twice it runs once' "$(grep -c 'Format()' ../messages)" 1
+    for name in .JUSTFILE Up.Just; do
+        put "$name" "$unformatted"; vim -i NONE -Nu ../vimrc -n -es -c write -c 'qa!' "$name" < /dev/null > /dev/null 2>&1
+        row "Vim formats $name" "$(text "$name")" "$formatted."; rm "$name"
+    done
+    put notjust "$unformatted"; vim -i NONE -Nu ../vimrc -n -es -c write -c 'qa!' notjust < /dev/null > /dev/null 2>&1
+    row 'and no other file' "$(text notjust)" "$unformatted."; rm notjust
     rm justfile
 fi
 
@@ -427,7 +561,7 @@ row 'and not what is unformatted after' "$status" 0
 git checkout -q justfile; put justfile "$broken"; git add justfile; commit
 row 'it tells a rejected file, with its place' "$status $(grep -c 'justfile:1:16$' ../errors)" '1 1'
 git reset -q --hard; put justfile "$unformatted"; git add justfile; commit
-row 'and says what to run' "$status $(grep -c '(run: justfiles justfile && git add justfile)$' ../errors)" '1 1'
+row 'and says what to run' "$status $(grep -c '(run: justfiles -- justfile && git add -- justfile)$' ../errors)" '1 1'
 git reset -q --hard; echo '*.just text eol=crlf' > .gitattributes; put crlf.just "$formatted"; git add .; commit
 row 'a formatted file that git converts' "$status" 0
 git rm -qf .gitattributes crlf.just; commit
@@ -441,6 +575,15 @@ put "$escape" "$unformatted"; git add .; commit
 row 'a name with a control character is told without it' "$status $(grep -c '^not formatted: e?\[31m.just' ../errors)" '1 1'
 rm "$escape"; git add .
 git reset -q --hard; git rm -q 'with blank.just'; commit; row 'a file that is deleted' "$status" 0
+mkdir stage; put stage/1:a.just "$unformatted"; git mv -f "quote's.just" "quote's too.just"; put "quote's too.just" "$unformatted"; git add .; commit
+row 'a name like that of a stage, and one with a quote' "$status $(grep -c "^not formatted: stage/1:a.just (run: justfiles -- 'stage/1:a.just'" ../errors) $(grep -c "git add -- 'quote'\\\\''s too.just')" ../errors)" '1 1 1'
+git reset -q --hard; put 0:a.just "$unformatted"; git add .; commit; row 'a name that begins with a stage' "$status" 1
+id=$(git rev-parse :0:0:a.just); rm -f ".git/objects/$(echo "$id" | cut -c1-2)/$(echo "$id" | cut -c3-)"
+sh .git/hooks/pre-commit 2> ../errors; row 'an object that is missing' "$? $(grep -c '^rejected: 0:a.just' ../errors)" '1 1'
+git reset -q --hard; git clean -fdq
+mkdir -p deep/er; i=0; while [ $i -lt 300 ]; do put "deep/er/$i.just" "$formatted"; i=$((i + 1)); done; put deep/er/last.just "$unformatted"; git add .
+(cd deep && sh ../.git/hooks/pre-commit 2> ../../errors); row 'many files, from a folder below' "$? $(cat ../errors)" '1 not formatted: deep/er/last.just (run: justfiles -- deep/er/last.just && git add -- deep/er/last.just)'
+git reset -q --hard; git clean -fdq
 git mv "quote's.just" renamed.just; commit; row 'a file that is renamed' "$status" 0
 git mv renamed.just again.just; put again.just "$unformatted"; git add .; commit
 row 'a file that is renamed and unformatted' "$status" 1
@@ -449,11 +592,16 @@ row 'links' "$status" 0
 put justfile "$unformatted"; commit -a; row 'commit -a' "$status" 1
 git reset -q --hard; put x.txt y; git add .; commit; row 'no justfile at all' "$status" 0
 step=$(sed -n 's/^  run: \(justfiles .*\)/\1/p' "$top/docs/EDITORS.md")
+known=$(sed -n '/^git ls-files /p' "$top/docs/EDITORS.md")
 sh -c "$step" > ../output 2> ../errors; row 'the step of CI passes a formatted file' "$?" 0
 put justfile "$unformatted"; sh -c "$step" > ../output 2> ../errors
 row 'and shows the diff of another' "$? $(grep -c '^+name := ' ../output)" '1 1'
 put justfile "$broken"; sh -c "$step" > ../output 2> ../errors
 row 'and the error of one that is rejected' "$? $(grep -c 'justfile:1:16$' ../errors)" '2 1'
+git reset -q --hard; put sub.JUST "$unformatted"; sh -c "$step" > ../output 2> ../errors
+row 'and of one in capitals' "$? $(grep -c '^+name := ' ../output)" '1 1'
+git add .; sh -c "$known" > ../output 2> ../errors; row 'so does the command for what git knows' "$? $(cat ../output)" '123 sub.JUST'
+git reset -q --hard; git rm -q dangling.just; put -x.just "$formatted"; git add .; sh -c "$known" > ../output 2>&1; row 'which passes formatted files' "$? $(cat ../output)" '0 '
 git reset -q --hard
 if command -v pre-commit > /dev/null && git -C "$top" status > /dev/null 2>&1; then
     put justfile "$unformatted"; git add .

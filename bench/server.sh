@@ -12,6 +12,12 @@ program=$(realpath "$program")
 work=$(mktemp -d) || exit 2
 trap 'rm -rf "$work"' EXIT
 status=0
+for words in '--help:A server' '-h:A server' '--version:justfile_server, commit ' '-V:justfile_server, commit '; do
+    case $(timeout 10 "$program" "${words%%:*}" < /dev/null) in
+    "${words#*:}"*) echo "${words%%:*}: as it should" ;;
+    *) echo "${words%%:*}: not as it should"; status=1 ;;
+    esac
+done
 python3 "$top/bench/server.py" "$program" "${2:-1000}" || status=1
 if command -v nvim > /dev/null; then
     printf 'e:="é𝄞\nbuild: clean\n  echo {{e}}\nclean:\n  rm -rf out\n' > "$work/justfile"

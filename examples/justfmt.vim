@@ -78,6 +78,6 @@ endfunction
 
 augroup justfmt
   autocmd!
-  autocmd BufWritePre justfile,Justfile,.justfile,*.just call s:Format()
+  autocmd BufWritePre * if expand('<afile>:t') =~? '^\.\?justfile$\|\.just$' | call s:Format() | endif
   autocmd ExitPre * call s:TellAtExit()
 augroup END

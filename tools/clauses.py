@@ -12,7 +12,7 @@ from trusted import WORD, File
 CITED = re.compile(r"((?:`\w+`(?:, | and )?)+) of (?:each )?`(\w+)(?:::(\w+))?`")
 LAW = re.compile(r"laws? `(\w+)` \(([^)]*)\)")
 BLOCK = re.compile(r"^(?:pub )?(?:struct|enum|trait) (\w+)|^impl(?:<.*?>)? (?:\S.* for )?&?(?:'\w+ )?(?:\w+::)*(\w+)")
-CALL = re.compile(r"^\s*(?:pub(?:\([^)]*\))? )?(?:const )?fn (\w+)")
+CALL = re.compile(r'^\s*(?:pub(?:\([^)]*\))? )?(?:const |extern "C" )?fn (\w+)')
 ALIAS = re.compile(r"^pub type (\w+)(?:<.*?>)? = (\w+)", re.M)
 CLAUSE = re.compile(r"^\s*(?:pub )?(?:ensures|requires|ghost) (?!use\b)(\w+)")
 

@@ -26,7 +26,10 @@ def names_in(path):
 
 
 def of_source(crate, parts):
-    """Whether the module of a source exists that a path goes through."""
+    """Whether the module of a source exists that a path goes through, or its root declares what the path names."""
+    root = CRATES / crate / "src/lib.rt"
+    if root.exists() and re.search(rf"pub (?:struct|enum|trait) {parts[0]}\b", root.read_text()):
+        return True
     modules = [part for part in parts if re.match(r"[a-z]", part)]
     paths = (CRATES / crate / "src" / "/".join(modules[:count]) for count in range(1, len(modules) + 1))
     return any(path.with_suffix(".rt").exists() for path in paths)

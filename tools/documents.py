@@ -9,14 +9,16 @@
 - Each script that a document names has its run bit, and each command of a block of code is there.
 - Each block of code after a line that ends in a path in backticks and a colon stands in that file, line by line.
 - Each figure that can be computed is as stated, and no command takes two times (figures.py).
+- Each example of a table of LANGUAGE that rejects some is the text of a row (ROWS).
 - No line of prose or of code has more than 120 characters, and no row of a table more than 400.
-- All documents together have at most so many words. The last line that is printed says how many they have.
+- All documents together have at most so many words, docs/API.md apart. The last line that is printed says how many.
+- docs/API.md is what api.py makes of the sources, so each public name is in it, with its doc comment.
 - Each source of a crate begins with a line `//!`, which says what it has.
 - Each definition and each lemma is cited (uncited.py).
 
 Prints what it finds, and the words of all documents; ends with 1 if it found something. With --write it rewrites the
 figures of docs/SIZES.md: its table, how the times were measured, and the longest chain of crates, the times from
-docs/times.txt.
+docs/times.txt; and docs/API.md.
 """
 import os
 import re
@@ -25,13 +27,14 @@ from functools import cache
 from subprocess import run
 
 sys.dont_write_bytecode = True
+import api  # noqa: E402
 import clauses  # noqa: E402
 import figures  # noqa: E402
 import uncited  # noqa: E402
 from figures import NAMES, TOP, halves  # noqa: E402
 
 LONGEST = {"line": 120, "row of a table": 400}
-MOST_WORDS = 39_000
+MOST_WORDS = 33_000
 
 # Names in backticks that the repository's code doesn't have, each group with its reason.
 EXCEPTIONS = {
@@ -78,7 +81,7 @@ def runnable():
 
 
 FILES = tracked()
-DOCUMENTS = [it for it in FILES if it.endswith(".md")]
+DOCUMENTS = [it for it in FILES if it.endswith(".md") and it != "docs/API.md"]
 CODE = [it for it in FILES if not it.endswith(".md") and it != "tools/documents.py"]
 RUNNABLE = runnable()
 
@@ -157,7 +160,7 @@ def crate_before(line, section):
 def known(crate):
     """The words that a name with this crate may have. Those of justfiles and the names of laws stand in any section."""
     if crate == "tests":
-        return set(NAMES).union(tests(), *map(words, ("text_rows", "justfile_rows", "justfile_syntax")))
+        return set(NAMES).union(tests(), *map(words, ("text_rows", "justfile_rows", "caller_rows", "justfile_syntax")))
     if crate.endswith("/specs"):
         return words(crate) | set(NAMES)
     elsewhere = ELSEWHERE[None] | ELSEWHERE.get(crate, set())
@@ -244,6 +247,23 @@ def check_quotes(file, text):
                 break
 
 
+ROW_NOTATION = str.maketrans({"\\": "\\\\", "⏎": "\\n", "⇥": "\\t", "␍": "\\r"})
+
+
+def check_examples(text):
+    """Each example of a table with a column `rejected`, and each elsewhere with a sign for a line end, is a row's."""
+    rows = "".join((TOP / it).read_text() for it in FILES if it.endswith(".rows"))
+    rejects = False
+    for number, line in enumerate(text.split("\n"), 1):
+        rejects = line.startswith("|") and (rejects or line.endswith("| rejected |"))
+        examples = [it for _, it in re.findall(r"(`+)(.+?)\1(?!`)", line)]
+        last = re.findall(r"(`+)(.+?)\1(?!`)", line.split(" | ")[-1]) if rejects else []
+        wanted = {it for _, it in last} | {it for it in examples if re.search("[⏎⇥␍]", it)}
+        for it in sorted(wanted):
+            if f"«{it.translate(ROW_NOTATION)}»" not in rows:
+                yield f"{number}: `{it}`: no row has this text"
+
+
 @cache
 def headings(file):
     """The anchors of a document's headings."""
@@ -283,7 +303,8 @@ def check_document(file, text):
     prose, blocks = halves(text)
     yield from (f"{file}: {it}" for it in check_links(file, text))
     yield from check_quotes(file, text)
-    for check in (check_runnable(prose), check_commands(blocks), check_widths(text)):
+    examples = check_examples(text) if file == "docs/LANGUAGE.md" else []
+    for check in (check_runnable(prose), check_commands(blocks), check_widths(text), examples):
         yield from (f"{file}:{it}" for it in check)
     for number, code, crate in spans(prose):
         if wrong := check_span(code, crate):
@@ -292,7 +313,7 @@ def check_document(file, text):
 
 def main():
     found = list(figures.check({it: (TOP / it).read_text() for it in DOCUMENTS}, "--write" in sys.argv))
-    found.extend([*clauses.check(), *check_heads()])
+    found.extend([*clauses.check(), *check_heads(), *api.check("--write" in sys.argv)])
     found.extend(check_citations())
     for file in DOCUMENTS:
         found.extend(check_document(file, (TOP / file).read_text()))

@@ -3,10 +3,11 @@
 - The table of sizes, counted in the sources, and of times, which are those of docs/times.txt, and the longest chain of
   crates by these.
 - Counts in sentences: wrong bodies, crates, files that name a neighbour.
+- The map of docs/PROOFS.md: the lines of the folders that a row names, and how many of their files name a neighbour.
 - Times in sentences, each that stands soon after a command. A command has one time in all documents, and one that
   proves a crate from nothing has that of the crate and of all below it.
 
-Counts of rows aren't stated anywhere: the outputs of `text_rows` and `justfile_rows` have them.
+Counts of rows aren't stated anywhere: the outputs of the programs that run rows have them.
 """
 import re
 import textwrap
@@ -16,10 +17,12 @@ from subprocess import run
 TOP = Path(__file__).resolve().parent.parent
 CRATES = TOP / "crates"
 SIZES = TOP / "docs/SIZES.md"
+PROOFS = TOP / "docs/PROOFS.md"
 TIMES = TOP / "docs/times.txt"
 PARTS = ("proof", "tests", "wrong bodies")
 LISTED = [line.partition(":") for line in (TOP / "crates.txt").read_text().splitlines() if ":" in line]
-BELOW = {name: rest.split() for name, _, rest in LISTED}
+# A static library has a word behind its name.
+BELOW = {name.split()[0]: rest.split() for name, _, rest in LISTED}
 NAMES = list(BELOW)
 
 WORDS = {word: count for count, word in enumerate("zero one two three four five six seven eight nine ten".split())}
@@ -43,7 +46,7 @@ def sizes(crate):
     """A crate's functions, and its lines of code, of tests, of definitions and of proofs."""
     tests = [path for path in CRATES.glob(f"{crate}/src/**/*.rt") if "tests" in (*path.parts, path.stem)]
     code = [path for path in CRATES.glob(f"{crate}/src/**/*.rt") if path not in tests]
-    function = re.compile(r"^\s*(?:pub(?:\([^)]*\))? )?(?:const )?fn \w", re.M)
+    function = re.compile(r'^\s*(?:pub(?:\([^)]*\))? )?(?:const |extern "C" )?fn \w', re.M)
     functions = sum(len(function.findall(path.read_text())) for path in code)
     specs, proofs = (CRATES.glob(f"{crate}/{folder}/**/*.antt") for folder in ("specs", "proofs"))
     return [functions, *map(lines, (code, tests, specs, proofs))]
@@ -145,6 +148,38 @@ def written(write):
         SIZES.write_text(made)
     else:
         yield "docs/SIZES.md: its figures are not those of the crates and of docs/times.txt: --write writes them"
+
+
+# The map of the proofs
+
+
+def naming(folders, name):
+    """How many files of some folders name a word."""
+    files = [path for folder in folders for path in (CRATES / folder).rglob("*.antt")]
+    return sum(1 for path in files if re.search(rf"\b{name}\b", path.read_text()))
+
+
+def map_row(row, neighbours):
+    """A row of the map with its figures: the lines of the folders in its third cell, and the files of each neighbour."""
+    cells = row.strip("|").split("|")
+    folders = re.findall(r"`([\w/]+)`", cells[2])
+    made = [str(lines(path for folder in folders for path in (CRATES / folder).rglob("*.antt")))]
+    made += [str(naming(folders, name) or "") for name in neighbours]
+    return "|" + "|".join([*cells[:3], *(f" {it} ".replace("  ", " ") for it in made)]) + "|"
+
+
+def mapped(write):
+    """The map as PROOFS has it; with `write` its figures are written. Its head names the neighbours in backticks."""
+    text = PROOFS.read_text()
+    head, _, *rows = re.search(r"^\| step .*\n(?:\|.*\n)+", text, re.M).group(0).splitlines()
+    neighbours = re.findall(r"`(\w+)`", head)
+    made = text
+    for row in rows:
+        made = made.replace(row, map_row(row, neighbours))
+    if made != text and write:
+        PROOFS.write_text(made)
+    elif made != text:
+        yield "docs/PROOFS.md: its map isn't that of the folders: --write writes it"
 
 
 # Sentences
@@ -263,6 +298,7 @@ def check_wrong_bodies():
 def check(texts, write):
     """What is wrong with the figures of these documents, by their names."""
     yield from written(write)
+    yield from mapped(write)
     yield from check_counts(texts)
     yield from check_times(texts)
     yield from check_neighbours()

@@ -4,7 +4,8 @@
 #
 # Each is compiled with checks by `rt try`; its output and its status are compared with those that `rt ci` wants. Prints
 # a line for each, and what differs. Ends with 1 if something differs. JOBS=N runs N at a time; without it, one for every
-# two processors. The row in scarce.rows isn't run: it takes all memory, which the checks need, too.
+# two processors. A run that takes more than 900 seconds on the clock has no answer. The row in scarce.rows isn't run:
+# it takes all memory, which the checks need, too.
 set -u
 top=$(cd "$(dirname "$0")/.." && pwd)
 work=$(mktemp -d) || exit 2
@@ -33,6 +34,10 @@ sed -i "$last" "$at.out" "$at.wanted" 2>/dev/null
 if [ "$found" = "$wanted" ] && { [ -n "$2" ] || cmp -s "$at.out" "$at.wanted"; }; then
     echo "$1${2:+ $2}: as it should"
     exit 0
+fi
+if [ "$found" = 6 ]; then
+    echo "$1${2:+ $2}: no answer within 900 seconds: run it again when the machine does less"
+    exit 1
 fi
 echo "$1${2:+ $2}: status $found, and not $wanted"
 if [ -n "$2" ]; then cat "$at.out"; else diff "$at.wanted" "$at.out"; fi | head -n 60

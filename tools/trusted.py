@@ -115,7 +115,7 @@ def cited(source, calls):
     text = (CRATES / source).read_text()
     names, aliases = imports(text, "ghost use ")
     for call in calls:
-        start = re.search(rf"\n\s*(?:pub )?fn {call}\b", text).end()
+        start = re.search(rf'\n\s*(?:pub )?(?:extern "C" )?fn {call}\b', text).end()
         clauses = text[start : start + re.search(r"\n\s*\{\n", text[start:]).start()]
         for word in set(WORD.findall(clauses)):
             yield imported(names, {}, word)
@@ -148,6 +148,7 @@ GROUPS = [
         ("justfile_ast/src/ast.rt", ["print", "print_to", "printable"]),
     ],
     [("justfile_files/src/run.rt", ["run"]), ("line_diff/src/unified.rt", ["unified_diff"])],
+    [("justfile_c/src/lib.rt", ["justfile_format"])],
 ]
 
 

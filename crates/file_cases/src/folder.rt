@@ -17,6 +17,9 @@ static FILES: &[(&str, &[u8])] = &[
     ("-n", b""),
     ("bad", b"bad\n"),
     ("bytes", b"\xff"),
+    ("d/justfile", b"one\n"),
+    ("d/notes", b"three\n"),
+    ("d/e/x.JUST", b"two\n"),
 ];
 
 /// A file.
@@ -77,6 +80,24 @@ fn index_of(files: &[MemoryFile], name: &str) -> Option<usize>
     None
 }
 
+/// Returns the names, within a folder, of the files in it and below, if there are any.
+fn names_in(
+    alloc: Global,
+    files: &[MemoryFile],
+    folder: &str,
+) -> Result<Option<Vec<String>>, AllocError> {
+    let folder = folder.trim_end_matches('/');
+    let mut names = Vec::new(alloc);
+    for file in files {
+        if let Some((first, rest)) = file.name.split_once('/') {
+            if first == folder {
+                names.push(rest.to_string(alloc)?)?;
+            }
+        }
+    }
+    Ok(if names.is_empty() { None } else { Some(names) })
+}
+
 /// Returns a copy of the bytes of the first file with a name.
 fn copy_of(alloc: Global, files: &[MemoryFile], name: &str) -> io::Result<Vec<u8>>
     ensures { IfOk result (λ bytes. IfSome (bytes_in files.now name.now)
@@ -122,6 +143,12 @@ impl Folder for MemoryFolder {
     ghost use Rattle.file_cases.specs.Memory.{contents_of};
 
     ghost contents = { contents_of };
+
+    ghost lists = { λ _ _ _. Unit {0} };
+
+    fn files_in(&self, alloc: Global, name: &str) -> Result<Option<Vec<String>>, AllocError> {
+        names_in(alloc, &self.files, name)
+    }
 
     fn read(&mut self, alloc: Global, name: &str) -> io::Result<Vec<u8>> {
         let number = self.reads;

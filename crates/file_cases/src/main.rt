@@ -1,7 +1,8 @@
 //! Runs what `justfiles` does over a folder in memory, with each of the first three reads, of the
 //! first three replacements and of the first three writes of a report failing in turn. Writes a
 //! line for each run: the arguments, what fails, the status, the texts of the files, and what was
-//! written to the output and as errors. Then it writes a diff of two changes that are far apart.
+//! written to the output and as errors; or what other arguments ask for, or what is wrong with them.
+//! Then it writes a diff of two changes that are far apart.
 #![tactic(auto)]
 
 mod far;
@@ -12,6 +13,7 @@ mod writer;
 use far::far_diff;
 use folder::MemoryFolder;
 use formatter::Constant;
+use justfile_files::request::{Request, Task, misuse_lines, request_in};
 use justfile_files::run::run;
 use std::alloc::{AllocError, Global};
 use std::io;
@@ -41,6 +43,22 @@ static CASES: &[&str] = &[
     "--check --list a b",
     "--list --check b a",
     "--list no\x1b bytes",
+    "d",
+    "--check a d c",
+    "--list d/ missing d",
+    "-h",
+    "--help a",
+    "-V",
+    "--version",
+    "--diff -",
+    "--check --list --name n -",
+    "--list -",
+    "--name",
+    "--name n",
+    "--name n a",
+    "- a",
+    "--chek a",
+    "--diff a\x1b --check",
 ];
 
 /// How many calls of each kind fail in turn.
@@ -70,16 +88,23 @@ fn words(alloc: Global, text: &str) -> Result<Vec<String>, AllocError> {
     Ok(words)
 }
 
-/// Runs a case, and writes its line.
-fn run_case(rt: &HostRuntime, case: &str, what: &str, faults: Faults) -> io::Result<()> {
+/// Runs a task, and writes its line.
+fn run_task(
+    rt: &HostRuntime,
+    case: &str,
+    task: Task,
+    names: &[String],
+    what: &str,
+    faults: Faults,
+) -> io::Result<()> {
     let alloc = rt.alloc();
-    let arguments = words(alloc, case)?;
     let mut folder = MemoryFolder::new(alloc, faults)?;
     let mut output = MemoryWriter::new(alloc, faults.write);
     let mut errors = MemoryWriter::new(alloc, usize::MAX);
     let status = run(
         alloc,
-        &arguments,
+        task,
+        names,
         &Constant,
         &mut folder,
         &mut output,
@@ -93,30 +118,42 @@ fn run_case(rt: &HostRuntime, case: &str, what: &str, faults: Faults) -> io::Res
     )
 }
 
+/// Runs a task without faults, and then with each fault.
+fn run_with_faults(rt: &HostRuntime, case: &str, task: Task, names: &[String]) -> io::Result<()> {
+    run_task(rt, case, task, names, "nothing", NONE)?;
+    for call in 0..MOST_CALLS {
+        let read = Faults { read: call, ..NONE };
+        run_task(rt, case, task, names, "read", read)?;
+        let replacement = Faults {
+            replacement: call,
+            ..NONE
+        };
+        run_task(rt, case, task, names, "replacement", replacement)?;
+        let write = Faults {
+            write: call,
+            ..NONE
+        };
+        run_task(rt, case, task, names, "write", write)?;
+    }
+    Ok(())
+}
+
+/// Does what the arguments of a case ask for, or writes what that is.
+fn run_case(rt: &HostRuntime, case: &str) -> io::Result<()> {
+    let arguments = words(rt.alloc(), case)?;
+    match request_in(&arguments) {
+        Ok(Request::Files(task, names)) => run_with_faults(rt, case, task, names),
+        Ok(request) => println!(rt; "{case:?} {request:?}"),
+        Err(misuse) => {
+            let lines = misuse_lines(rt.alloc(), misuse)?;
+            println!(rt; "{case:?} {:?}", lines.as_str())
+        }
+    }
+}
+
 fn main(rt: HostRuntime) -> io::Result<()> {
     for case in CASES {
-        run_case(&rt, case, "nothing", NONE)?;
-        for call in 0..MOST_CALLS {
-            run_case(&rt, case, "read", Faults { read: call, ..NONE })?;
-            run_case(
-                &rt,
-                case,
-                "replacement",
-                Faults {
-                    replacement: call,
-                    ..NONE
-                },
-            )?;
-            run_case(
-                &rt,
-                case,
-                "write",
-                Faults {
-                    write: call,
-                    ..NONE
-                },
-            )?;
-        }
+        run_case(&rt, case)?;
     }
     let diff = far_diff(rt.alloc())?;
     print!(rt; "{diff}")

@@ -81,10 +81,18 @@ fn read_rules<'src>(
     ensures { Makes (λ _. rules_of rules.new) result
         (rules_read name.entry.token (key_arguments keys.old) (rules_of rules.old)) }
 {
-    read_names(alloc, name, keys, rules)?;
-    read_values(name, keys, rules)?;
-    read_switches(alloc, keys, rules)?;
-    read_bounds(alloc, name, keys, rules)?;
+    if let Err(fault) = read_names(alloc, name, keys, rules) {
+        return Err(fault);
+    }
+    if let Err(fault) = read_values(name, keys, rules) {
+        return Err(fault);
+    }
+    if let Err(fault) = read_switches(alloc, keys, rules) {
+        return Err(fault);
+    }
+    if let Err(fault) = read_bounds(alloc, name, keys, rules) {
+        return Err(fault);
+    }
     read_help(name, keys, rules)
 }
 
@@ -100,8 +108,10 @@ fn read_names<'src>(
         (names_read name.entry.token (key_arguments keys.old) (rules_of rules.old)) }
     ensures rest { OnOk result (key_arguments keys.new ≡ after_names (key_arguments keys.old)) }
 {
-    read_long(alloc, name, keys, rules)?;
-    read_short(alloc, name, keys, rules)
+    match read_long(alloc, name, keys, rules) {
+        Ok(()) => read_short(alloc, name, keys, rules),
+        Err(fault) => Err(fault),
+    }
 }
 
 /// Takes `long` out of the keys and sets the name of the long option.
@@ -177,9 +187,17 @@ fn read_values<'src>(
         (values_read name.entry.token (key_arguments keys.old) (rules_of rules.old)) }
     ensures rest { OnOk result (key_arguments keys.new ≡ after_values (key_arguments keys.old)) }
 {
-    rules.pattern_property = take_required(name, keys, "pattern")?;
-    rules.value = take_value(keys, rules)?;
-    Ok(())
+    match take_required(name, keys, "pattern") {
+        Ok(pattern) => rules.pattern_property = pattern,
+        Err(fault) => return Err(fault),
+    }
+    match take_value(keys, rules) {
+        Ok(value) => {
+            rules.value = value;
+            Ok(())
+        }
+        Err(fault) => Err(fault),
+    }
 }
 
 /// Takes `flag` and `multiple` out of the keys and sets both.
@@ -193,9 +211,17 @@ fn read_switches<'src>(
         (switches_read rules.old.name.token (key_arguments keys.old) (rules_of rules.old)) }
     ensures rest { OnOk result (key_arguments keys.new ≡ after_switches (key_arguments keys.old)) }
 {
-    rules.flag = take_flag(alloc, keys, rules)?;
-    rules.multiple = take_multiple(keys, rules)?;
-    Ok(())
+    match take_flag(alloc, keys, rules) {
+        Ok(flag) => rules.flag = flag,
+        Err(fault) => return Err(fault),
+    }
+    match take_multiple(keys, rules) {
+        Ok(multiple) => {
+            rules.multiple = multiple;
+            Ok(())
+        }
+        Err(fault) => Err(fault),
+    }
 }
 
 /// Takes `max` and `min` out of the keys and sets both.
@@ -210,11 +236,21 @@ fn read_bounds<'src>(
         (bounds_read name.entry.token (key_arguments keys.old) (rules_of rules.old)) }
     ensures rest { OnOk result (key_arguments keys.new ≡ after_bounds (key_arguments keys.old)) }
 {
-    let max = take_bound(alloc, name, keys, "max")?;
-    let min = take_bound(alloc, name, keys, "min")?;
-    check_bounds(min, max)?;
-    set_bounds(rules, min, max);
-    Ok(())
+    let max = match take_bound(alloc, name, keys, "max") {
+        Ok(max) => max,
+        Err(fault) => return Err(fault),
+    };
+    let min = match take_bound(alloc, name, keys, "min") {
+        Ok(min) => min,
+        Err(fault) => return Err(fault),
+    };
+    match check_bounds(min, max) {
+        Ok(()) => {
+            set_bounds(rules, min, max);
+            Ok(())
+        }
+        Err(fault) => Err(fault),
+    }
 }
 
 /// Sets `min` and `max`.
@@ -240,8 +276,13 @@ fn read_help<'src>(
     ensures { Makes (λ _. rules_of rules.new) result
         (help_read name.entry.token (key_arguments keys.old) (rules_of rules.old)) }
 {
-    rules.help_property = take_required(name, keys, "help")?;
-    Ok(())
+    match take_required(name, keys, "help") {
+        Ok(help) => {
+            rules.help_property = help;
+            Ok(())
+        }
+        Err(fault) => Err(fault),
+    }
 }
 
 /// Sets the names of the options whose keys have no value: each is a copy of the parameter's name.

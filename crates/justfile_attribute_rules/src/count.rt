@@ -6,7 +6,7 @@ ghost use Rattle.justfile_attribute_rules.specs.Keys.{views_keys};
 ghost use Rattle.justfile_attribute_rules.specs.Made.{Makes};
 ghost use Rattle.justfile_attribute_rules.specs.RuleErrors.{IsMost};
 
-use justfile_token::{CompileErrorKind, CompileResult, Fault, Name};
+use justfile_token::{CompileError, CompileErrorKind, CompileResult, Fault, Name};
 use justfile_vocabulary::AttributeKind;
 
 /// Whether an attribute of this kind takes any expressions as its positional arguments. Other kinds
@@ -35,12 +35,15 @@ pub fn check_count<'src>(name: Name<'src>, kind: AttributeKind, found: usize) ->
 {
     let (min, max) = argument_range(kind);
     if found < min || max < found {
-        return Err(Fault::Compile(name.error(CompileErrorKind::AttributeArgumentCountMismatch {
-            attribute: name,
-            found,
-            min,
-            max,
-        })));
+        return Err(Fault::Compile(CompileError {
+            kind: CompileErrorKind::AttributeArgumentCountMismatch {
+                attribute: name,
+                found,
+                min,
+                max,
+            },
+            token: *name,
+        }));
     }
     Ok(())
 }

@@ -13,7 +13,7 @@ ghost use Rattle.justfile_model.specs.Meanings.Rules.{AttributeKeyMissingValue};
 ghost use Rattle.justfile_attribute_rules.specs.Made.{IsFaultOfRule, Makes};
 
 use justfile_expression::Expression;
-use justfile_token::{CompileErrorKind, CompileResult, Fault, Name};
+use justfile_token::{CompileError, CompileErrorKind, CompileResult, Fault, Name};
 use justfile_vocabulary::AttributeKind;
 use std::collections::BTreeMap;
 
@@ -107,10 +107,13 @@ pub fn check_keys<'src>(
 {
     for (text, (key, _value)) in keys {
         if !is_known(kind, text) {
-            return Err(Fault::Compile(key.error(CompileErrorKind::UnknownAttributeKey {
-                attribute: name.lexeme(),
-                key: key.lexeme(),
-            })));
+            return Err(Fault::Compile(CompileError {
+                kind: CompileErrorKind::UnknownAttributeKey {
+                    attribute: name.lexeme(),
+                    key: key.lexeme(),
+                },
+                token: **key,
+            }));
         }
     }
     Ok(())

@@ -50,8 +50,14 @@ pub fn string_literals<'src>(
 {
     let mut literals = Vec::new(alloc);
     for (first, value) in arguments {
-        let literal = placed_literal(name, first, value)?;
-        literals.push(literal)?;
+        let literal = match placed_literal(name, first, value) {
+            Ok(literal) => literal,
+            Err(fault) => return Err(fault),
+        };
+        match literals.push(literal) {
+            Ok(()) => {}
+            Err(failed) => return Err(Fault::from(failed)),
+        }
     }
     Ok(literals)
 }

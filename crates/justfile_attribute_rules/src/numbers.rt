@@ -13,7 +13,7 @@ ghost use Rattle.justfile_attribute_rules.specs.Made.{Makes, bound_at, bound_mad
 use crate::keys::{KeyMap, missing_value_fault, take};
 use crate::literals::key_literal;
 use justfile_expression::Expression;
-use justfile_token::{CompileErrorKind, CompileResult, Fault, Name, StringLiteral};
+use justfile_token::{CompileError, CompileErrorKind, CompileResult, Fault, Name, StringLiteral};
 use std::alloc::Global;
 
 /// The message for a number that doesn't fit into 64 bits.
@@ -56,9 +56,14 @@ fn bound<'src>(
     ensures { Makes (option_map bound_at) result
         (bound_made name.entry.token key.entry.token (leaf_tree_of value.entry.value)) }
 {
-    let literal = key_literal(name, key, value)?;
-    let number = read_count(alloc, key, &literal)?;
-    Ok(Some((key, number)))
+    let literal = match key_literal(name, key, value) {
+        Ok(literal) => literal,
+        Err(fault) => return Err(fault),
+    };
+    match read_count(alloc, key, &literal) {
+        Ok(number) => Ok(Some((key, number))),
+        Err(fault) => Err(fault),
+    }
 }
 
 /// Returns the number that a literal holds.
@@ -72,25 +77,27 @@ fn read_count<'src>(
 {
     let text = literal.cooked.as_str();
     if !is_count(text.as_bytes()) {
-        let value = text.to_string(alloc)?;
-        return Err(Fault::Compile(
-            literal
-                .token
-                .error(CompileErrorKind::ArgumentCountValue { key, value }),
-        ));
+        return match text.to_string(alloc) {
+            Ok(value) => Err(Fault::Compile(CompileError {
+                kind: CompileErrorKind::ArgumentCountValue { key, value },
+                token: literal.token,
+            })),
+            Err(_) => Err(Fault::Memory),
+        };
     }
     match parse_count(text) {
         Some(number) => Ok(number),
-        None => {
-            let value = text.to_string(alloc)?;
-            Err(Fault::Compile(
-                literal.token.error(CompileErrorKind::ArgumentCountParse {
+        None => match text.to_string(alloc) {
+            Ok(value) => Err(Fault::Compile(CompileError {
+                kind: CompileErrorKind::ArgumentCountParse {
                     key,
                     source: TOO_LARGE,
                     value,
-                }),
-            ))
-        }
+                },
+                token: literal.token,
+            })),
+            Err(_) => Err(Fault::Memory),
+        },
     }
 }
 
@@ -133,10 +140,10 @@ pub(crate) fn check_bounds<'src>(
 {
     if let (Some((key, min)), Some((_, max))) = (min, max) {
         if max < min {
-            return Err(Fault::Compile(key.error(CompileErrorKind::ArgAttributeMinExceedsMax {
-                min,
-                max,
-            })));
+            return Err(Fault::Compile(CompileError {
+                kind: CompileErrorKind::ArgAttributeMinExceedsMax { min, max },
+                token: *key,
+            }));
         }
     }
     Ok(())

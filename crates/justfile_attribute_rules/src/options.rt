@@ -12,7 +12,7 @@ ghost use Rattle.justfile_attribute_rules.specs.Made.{Makes, option_word, quoted
 use crate::keys::{KeyMap, take};
 use crate::literals::key_literal;
 use justfile_expression::Expression;
-use justfile_token::{CompileErrorKind, CompileResult, Fault, Name, StringLiteral};
+use justfile_token::{CompileError, CompileErrorKind, CompileResult, Fault, Name, StringLiteral};
 use std::alloc::{AllocError, Global};
 
 /// The name of an option: a literal, or a key without a value that gives it the parameter's name.
@@ -59,10 +59,17 @@ fn option_name<'src>(
         (new.option_by views_keys name.entry.token (string_bytes argument.now.cooked) is_short
         (Named key.entry.token None) (Some (leaf_tree_of value.entry.value))) }
 {
-    let literal = key_literal(name, key, value)?;
-    check_option_name(alloc, argument, &literal)?;
-    check_short(alloc, argument, is_short, &literal)?;
-    Ok((Some(literal), None))
+    let literal = match key_literal(name, key, value) {
+        Ok(literal) => literal,
+        Err(fault) => return Err(fault),
+    };
+    if let Err(fault) = check_option_name(alloc, argument, &literal) {
+        return Err(fault);
+    }
+    match check_short(alloc, argument, is_short, &literal) {
+        Ok(()) => Ok((Some(literal), None)),
+        Err(fault) => Err(fault),
+    }
 }
 
 /// Sets the name of an option whose key has no value to a copy of the parameter's name.
@@ -93,26 +100,31 @@ fn check_option_name<'src>(
 {
     let option = literal.cooked.as_str().as_bytes();
     if option.contains(&b'=') {
-        let parameter = argument_text(alloc, argument)?;
-        return Err(Fault::Compile(
-            literal.token.error(CompileErrorKind::OptionNameContainsEqualSign { parameter }),
-        ));
+        return match argument_text(alloc, argument) {
+            Ok(parameter) => Err(Fault::Compile(CompileError {
+                kind: CompileErrorKind::OptionNameContainsEqualSign { parameter },
+                token: literal.token,
+            })),
+            Err(_) => Err(Fault::Memory),
+        };
     }
     if option.first().copied() == Some(b'-') {
-        let parameter = argument_text(alloc, argument)?;
-        return Err(Fault::Compile(
-            literal
-                .token
-                .error(CompileErrorKind::OptionNameStartsWithDash { parameter }),
-        ));
+        return match argument_text(alloc, argument) {
+            Ok(parameter) => Err(Fault::Compile(CompileError {
+                kind: CompileErrorKind::OptionNameStartsWithDash { parameter },
+                token: literal.token,
+            })),
+            Err(_) => Err(Fault::Memory),
+        };
     }
     if option.is_empty() {
-        let parameter = argument_text(alloc, argument)?;
-        return Err(Fault::Compile(
-            literal
-                .token
-                .error(CompileErrorKind::OptionNameEmpty { parameter }),
-        ));
+        return match argument_text(alloc, argument) {
+            Ok(parameter) => Err(Fault::Compile(CompileError {
+                kind: CompileErrorKind::OptionNameEmpty { parameter },
+                token: literal.token,
+            })),
+            Err(_) => Err(Fault::Memory),
+        };
     }
     Ok(())
 }
@@ -129,10 +141,13 @@ fn check_short<'src>(
         (quoted_leaf literal.now) (string_bytes literal.now.cooked)) }
 {
     if is_short && !has_one_char(literal.cooked.as_str()) {
-        let parameter = argument_text(alloc, argument)?;
-        return Err(Fault::Compile(
-            literal.token.error(CompileErrorKind::ShortOptionWithMultipleCharacters { parameter }),
-        ));
+        return match argument_text(alloc, argument) {
+            Ok(parameter) => Err(Fault::Compile(CompileError {
+                kind: CompileErrorKind::ShortOptionWithMultipleCharacters { parameter },
+                token: literal.token,
+            })),
+            Err(_) => Err(Fault::Memory),
+        };
     }
     Ok(())
 }

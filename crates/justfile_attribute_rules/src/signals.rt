@@ -2,7 +2,7 @@
 ghost use Rattle.std.specs.Prelude.{◌≡◌};
 ghost use Rattle.justfile_attribute_rules.specs.Made.{Makes, quoted_leaf, quoted_leaves, signal_made, signals_made};
 
-use justfile_token::{CompileErrorKind, CompileResult, Fault, StringLiteral};
+use justfile_token::{CompileError, CompileErrorKind, CompileResult, Fault, StringLiteral};
 use justfile_vocabulary::Signal;
 use std::alloc::Global;
 use std::collections::BTreeSet;
@@ -21,8 +21,14 @@ pub fn signal_set<'src>(
 {
     let mut signals = BTreeSet::new(alloc);
     for literal in literals {
-        let signal = signal(alloc, &literal)?;
-        signals.insert(signal)?;
+        let signal = match signal(alloc, &literal) {
+            Ok(signal) => signal,
+            Err(fault) => return Err(fault),
+        };
+        match signals.insert(signal) {
+            Ok(_) => {}
+            Err(_) => return Err(Fault::Memory),
+        }
     }
     Ok(signals)
 }
@@ -33,13 +39,12 @@ fn signal<'src>(alloc: Global, literal: &StringLiteral<'src>) -> CompileResult<'
 {
     match Signal::from_name(literal.cooked.as_str()) {
         Some(signal) => Ok(signal),
-        None => {
-            let signal = literal.cooked.as_str().to_string(alloc)?;
-            Err(Fault::Compile(
-                literal
-                    .token
-                    .error(CompileErrorKind::InvalidSignal { signal }),
-            ))
-        }
+        None => match literal.cooked.as_str().to_string(alloc) {
+            Ok(signal) => Err(Fault::Compile(CompileError {
+                kind: CompileErrorKind::InvalidSignal { signal },
+                token: literal.token,
+            })),
+            Err(_) => Err(Fault::Memory),
+        },
     }
 }

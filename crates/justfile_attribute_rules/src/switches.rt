@@ -14,7 +14,7 @@ use crate::argument_rules::ArgumentRules;
 use crate::keys::{KeyMap, missing_value_fault, take};
 use crate::options::argument_text;
 use justfile_expression::Expression;
-use justfile_token::{CompileErrorKind, CompileResult, Fault, Name, Token};
+use justfile_token::{CompileError, CompileErrorKind, CompileResult, Fault, Name, Token};
 use std::alloc::Global;
 
 /// Removes the key `value` and returns its value.
@@ -78,23 +78,34 @@ fn check_flag<'src>(
         (flag_made (rules_of rules.now) (keyed (codes "flag") (key.entry, value.now))) }
 {
     if value.is_some() {
-        let parameter = argument_text(alloc, &rules.name)?;
-        return Err(Fault::Compile(key.error(CompileErrorKind::FlagAttributeTakesNoValue {
-            parameter,
-        })));
+        return match argument_text(alloc, &rules.name) {
+            Ok(parameter) => Err(Fault::Compile(CompileError {
+                kind: CompileErrorKind::FlagAttributeTakesNoValue { parameter },
+                token: *key,
+            })),
+            Err(_) => Err(Fault::Memory),
+        };
     }
-    check_has_option(key, rules)?;
+    if let Err(fault) = check_has_option(key, rules) {
+        return Err(fault);
+    }
     if rules.value.is_some() {
-        let parameter = argument_text(alloc, &rules.name)?;
-        return Err(Fault::Compile(key.error(CompileErrorKind::FlagAndValueArgAttribute {
-            parameter,
-        })));
+        return match argument_text(alloc, &rules.name) {
+            Ok(parameter) => Err(Fault::Compile(CompileError {
+                kind: CompileErrorKind::FlagAndValueArgAttribute { parameter },
+                token: *key,
+            })),
+            Err(_) => Err(Fault::Memory),
+        };
     }
     if rules.pattern_property.is_some() {
-        let parameter = argument_text(alloc, &rules.name)?;
-        return Err(Fault::Compile(key.error(CompileErrorKind::FlagAndPatternArgAttribute {
-            parameter,
-        })));
+        return match argument_text(alloc, &rules.name) {
+            Ok(parameter) => Err(Fault::Compile(CompileError {
+                kind: CompileErrorKind::FlagAndPatternArgAttribute { parameter },
+                token: *key,
+            })),
+            Err(_) => Err(Fault::Memory),
+        };
     }
     Ok(())
 }
@@ -132,7 +143,10 @@ fn check_multiple<'src>(
         (keyed (codes "multiple") (key.entry, value.now))) }
 {
     if value.is_some() {
-        return Err(Fault::Compile(key.error(CompileErrorKind::AttributeKeyTakesNoValue { key })));
+        return Err(Fault::Compile(CompileError {
+            kind: CompileErrorKind::AttributeKeyTakesNoValue { key },
+            token: *key,
+        }));
     }
     match check_has_option(key, rules) {
         Ok(()) => Ok(()),
@@ -146,7 +160,10 @@ fn check_has_option<'src>(key: Name<'src>, rules: &ArgumentRules<'src>) -> Compi
         (broken.ArgAttributeRequiresOption key.entry.token) key.entry.token) }
 {
     if lacks_option(rules) {
-        return Err(Fault::Compile(key.error(CompileErrorKind::ArgAttributeRequiresOption { key })));
+        return Err(Fault::Compile(CompileError {
+            kind: CompileErrorKind::ArgAttributeRequiresOption { key },
+            token: *key,
+        }));
     }
     Ok(())
 }

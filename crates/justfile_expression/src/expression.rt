@@ -447,8 +447,23 @@ fn box_copy<'src>(
     requires { IsCopied copied (right_side expression.now) }
     ensures { IfOk result (λ copy. IsSameExpression copy.value expression.now) }
 {
-    let copy = copy_node(alloc, expression, copied)?;
-    Ok(Box::new(alloc, copy)?)
+    match copy_node(alloc, expression, copied) {
+        Ok(copy) => boxed(alloc, copy),
+        Err(failed) => Err(failed),
+    }
+}
+
+/// Puts an expression into a box.
+fn boxed<'src>(
+    alloc: Global,
+    expression: Expression<'src>,
+) -> Result<Box<Expression<'src>>, AllocError>
+    ensures { IfOk result (λ boxed. boxed.value ≡ expression.entry) }
+{
+    match Box::new(alloc, expression) {
+        Ok(expression) => Ok(expression),
+        Err(_failed) => Err(AllocError),
+    }
 }
 
 /// Copies expressions.

@@ -1,4 +1,5 @@
 pub mod FormatLemmas
+pub mod FoundLemmas
 pub mod OutcomeLemmas
 pub mod OutputLemmas
 pub mod RequestLemmas

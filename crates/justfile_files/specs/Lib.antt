@@ -1,10 +1,10 @@
-pub mod Folder
-pub mod Formatter
 pub mod Failure
 pub mod FileResult
+pub mod Folder
+pub mod Formatter
+pub mod Found
 pub mod Outcome
 pub mod Output
-pub mod Question
 pub mod Request
-pub mod Stream
+pub mod Run
 pub mod Visible

@@ -1,6 +1,8 @@
 //! The folder in which files lie.
 ghost use Rattle.std.specs.Prelude.{◌≡◌, ℕ, List, Option, IfOk, IfSome, OnErr, OnOk};
+ghost use Rattle.std.specs.Option.{option_map};
 ghost use Rattle.justfile_files.specs.Folder.{KeepsFiles, Replaces};
+ghost use Rattle.justfile_files.specs.Request.{texts};
 
 use std::alloc::{AllocError, Global};
 use std::io;
@@ -32,6 +34,20 @@ impl From<AllocError> for ReplaceError {
 pub trait Folder {
     /// The bytes of the file with a name, if there is one and they are known.
     ghost contents: { Self → List ℕ → Option (List ℕ) };
+
+    /// The folder with a name, if it is one that can be searched, has files with these names within
+    /// it: in it and below, those of justfiles at least. Names of folders that can't be searched
+    /// are among them, with a slash at their end.
+    ghost lists: { Self → List ℕ → Option (List (List ℕ)) → Type 0 };
+
+    /// Returns the names of the files in a folder and below, if the name is that of a folder.
+    ///
+    /// # Errors
+    ///
+    /// Memory ran out.
+    fn files_in(&self, alloc: Global, name: &str) -> Result<Option<Vec<String>>, AllocError>
+        ensures { IfOk result (λ names. lists self.now name.now
+            (option_map (λ found. texts found.items) names)) };
 
     /// Returns the bytes of a file.
     ///

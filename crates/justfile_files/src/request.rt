@@ -1,7 +1,12 @@
 //! What the arguments ask for.
-ghost use Rattle.std.specs.Prelude.{◌≡◌};
-ghost use Rattle.std.specs.List.{list_any};
-ghost use Rattle.justfile_files.specs.Request.{is_in_place, is_option, listing, names_of, request_of, shown_names, shown_request, task_of, texts, without};
+ghost use Rattle.std.specs.Prelude.{◌≡◌, IfOk, Some, string_bytes};
+ghost use Rattle.justfile_files.specs.Request.{first_option, given_names, is_in_place, is_option, listing, misuse_lines, named, names_of, request_of, shown_misuse, shown_option, shown_request, stream_of, subject_of, task_of, texts, what_is_wrong, without};
+
+use crate::visible::visible_name;
+use std::alloc::{AllocError, Global};
+
+/// The name of standard input in messages, if the arguments give it none.
+pub const NAME: &str = "justfile";
 
 /// What is done with each file.
 #[derive(Clone, Copy, Debug, PartialEq, Eq)]
@@ -14,6 +19,30 @@ pub enum Task {
     Check,
     /// The changes that formatting would make are written.
     Diff,
+}
+
+/// What the arguments ask for.
+#[derive(Clone, Copy, Debug)]
+pub enum Request<'a> {
+    /// What the program does and how it is called.
+    Help,
+    /// Which version it is.
+    Version,
+    /// The task with the files and folders of these names. There is at least one.
+    Files(Task, &'a [String]),
+    /// The task with the justfile that `just` would find.
+    Nearest(Task),
+    /// The task with standard input, which has this name in messages.
+    Stream(Task, &'a str),
+}
+
+/// Why arguments ask for nothing.
+#[derive(Clone, Copy, Debug)]
+pub enum Misuse<'a> {
+    /// This one doesn't fit.
+    Unexpected(&'a str),
+    /// After the last one another is missing.
+    Incomplete,
 }
 
 impl Task {
@@ -30,8 +59,32 @@ impl Task {
     }
 }
 
+/// Returns what the arguments ask for, which have one of the forms `--help`, `--version`,
+/// `OPTIONS NAME..`, `OPTIONS -- NAME..`, `OPTIONS` and `OPTIONS [--name FILE] -`. The options are
+/// `--check`, `--diff` or `--list`, or `--check` and `--list`. A name that begins with `-` comes
+/// after `--`.
+///
+/// # Errors
+///
+/// They have another form.
+pub fn request_in(arguments: &[String]) -> Result<Request<'_>, Misuse<'_>>
+    ensures { shown_request result ≡ request_of (texts arguments.now) }
+{
+    let [first, ..] = arguments else {
+        return Ok(Request::Nearest(Task::Format));
+    };
+    if first.as_str() == "--help" || first.as_str() == "-h" {
+        return Ok(Request::Help);
+    }
+    if first.as_str() == "--version" || first.as_str() == "-V" {
+        return Ok(Request::Version);
+    }
+    let (task, words) = task_in(arguments);
+    subject_in(task, words)
+}
+
 /// Returns the task that the first words ask for, and the words after its options.
-pub(crate) fn task_in(words: &[String]) -> (Task, &[String])
+fn task_in(words: &[String]) -> (Task, &[String])
     ensures task { result.0 ≡ (task_of (texts words.now)).0 }
     ensures rest { texts result.1.now ≡ (task_of (texts words.now)).1 }
 {
@@ -72,39 +125,80 @@ fn without<'a>(words: &'a [String], option: &str) -> &'a [String]
     }
 }
 
-/// Returns the task and the names of the files that the arguments ask for, if they have the form
-/// `OPTIONS FILE..` or `OPTIONS -- FILE..`. The options are `--check`, `--diff` or `--list`, or
-/// `--check` and `--list`. A name that begins with `-` comes after `--`.
-pub fn request_in(arguments: &[String]) -> Option<(Task, &[String])>
-    ensures { shown_request result ≡ request_of (texts arguments.now) }
-{
-    let (task, words) = task_in(arguments);
-    Some((task, names_in(words)?))
-}
-
-/// Returns the names of files that words are, or those after `--`. There is at least one.
-fn names_in(words: &[String]) -> Option<&[String]>
-    ensures { shown_names result ≡ names_of (texts words.now) }
+/// Returns what the words after the options ask for.
+fn subject_in(task: Task, words: &[String]) -> Result<Request<'_>, Misuse<'_>>
+    ensures { shown_request result ≡ subject_of task (texts words.now) }
 {
     let [first, rest @ ..] = words else {
-        return None;
+        return Ok(Request::Nearest(task));
     };
     if first.as_str() == "--" {
-        return if rest.is_empty() { None } else { Some(rest) };
+        return given_in(task, rest);
     }
-    if has_option(words) { None } else { Some(words) }
+    if first.as_str() == "-" {
+        return stream_in(task, NAME, first.as_str(), rest);
+    }
+    if first.as_str() == "--name" {
+        return named_in(task, rest);
+    }
+    match option_in(words) {
+        Some(option) => Err(Misuse::Unexpected(option)),
+        None => Ok(Request::Files(task, words)),
+    }
 }
 
-/// Whether one of the words begins with `-`.
-fn has_option(words: &[String]) -> bool
-    ensures { result ≡ list_any is_option (texts words.now) }
+/// Returns what the words after `--` ask for.
+fn given_in(task: Task, names: &[String]) -> Result<Request<'_>, Misuse<'_>>
+    ensures { shown_request result ≡ given_names task (texts names.now) }
+{
+    if names.is_empty() {
+        return Err(Misuse::Incomplete);
+    }
+    Ok(Request::Files(task, names))
+}
+
+/// Returns what the words after `--name` ask for.
+fn named_in(task: Task, words: &[String]) -> Result<Request<'_>, Misuse<'_>>
+    ensures { shown_request result ≡ named task (texts words.now) }
+{
+    let [name, dash, rest @ ..] = words else {
+        return Err(Misuse::Incomplete);
+    };
+    if dash.as_str() == "-" {
+        return stream_in(task, name.as_str(), dash.as_str(), rest);
+    }
+    Err(Misuse::Unexpected(dash.as_str()))
+}
+
+/// Returns that standard input is asked for, if nothing is left after the word that stands for it.
+/// The formatted text is written where names would be, so there is no list.
+fn stream_in<'a>(
+    task: Task,
+    name: &'a str,
+    dash: &'a str,
+    rest: &'a [String],
+) -> Result<Request<'a>, Misuse<'a>>
+    ensures { shown_request result ≡ stream_of task name.now dash.now (texts rest.now) }
+{
+    if task == Task::FormatAndName {
+        return Err(Misuse::Unexpected(dash));
+    }
+    match rest {
+        [] => Ok(Request::Stream(task, name)),
+        [next, ..] => Err(Misuse::Unexpected(next.as_str())),
+    }
+}
+
+/// Returns the first of the words that begins with `-`.
+fn option_in(words: &[String]) -> Option<&str>
+    ensures { shown_option result ≡ first_option (texts words.now) }
 {
     for word in words {
         if is_option(word.as_str()) {
-            return true;
+            return Some(word.as_str());
         }
     }
-    false
+    None
 }
 
 /// Whether a word begins with `-`.
@@ -112,4 +206,41 @@ fn is_option(word: &str) -> bool
     ensures { result ≡ is_option word.now }
 {
     word.starts_with("-")
+}
+
+/// Returns the lines that tell a misuse.
+///
+/// # Errors
+///
+/// Memory ran out.
+pub fn misuse_lines(alloc: Global, misuse: Misuse<'_>) -> Result<String, AllocError>
+    ensures { IfOk result (λ lines. string_bytes lines
+        ≡ misuse_lines (shown_misuse misuse.entry)) }
+{
+    let wrong = what_is_wrong(alloc, misuse)?;
+    let mut lines = "error: ".to_string(alloc)?;
+    lines.push_str(wrong.as_str())?;
+    lines.push_str("\nsee justfiles --help\n")?;
+    Ok(lines)
+}
+
+/// Returns what is wrong in words.
+fn what_is_wrong(alloc: Global, misuse: Misuse<'_>) -> Result<String, AllocError>
+    ensures { IfOk result (λ words. string_bytes words
+        ≡ what_is_wrong (shown_misuse misuse.entry)) }
+{
+    match misuse {
+        Misuse::Unexpected(word) => unexpected(alloc, word),
+        Misuse::Incomplete => "an argument is missing at the end".to_string(alloc),
+    }
+}
+
+/// Returns in words that an argument doesn't fit.
+fn unexpected(alloc: Global, word: &str) -> Result<String, AllocError>
+    ensures { IfOk result (λ words. string_bytes words ≡ what_is_wrong (Some word.now)) }
+{
+    let word = visible_name(alloc, word)?;
+    let mut words = "unexpected argument: ".to_string(alloc)?;
+    words.push_str(word.as_str())?;
+    Ok(words)
 }

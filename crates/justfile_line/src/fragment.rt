@@ -6,7 +6,7 @@ ghost use Rattle.justfile_line.specs.Body.{fragment_shape};
 
 use justfile_expression::Expression;
 use justfile_inner_expressions::write_expression;
-use justfile_leaves::put_piece;
+use justfile_leaves::{put_piece, write_body_text};
 use justfile_token::{Sink, Token, TryClone};
 use std::alloc::{AllocError, Global};
 use std::fmt;
@@ -79,7 +79,7 @@ pub(crate) fn write_fragment<S: Sink>(fragment: &Fragment<'_>, sink: &mut S) -> 
             write_expression(expression, sink)?;
             write_interpolation_end(sink)
         }
-        Fragment::Text { token } => sink.put(token.lexeme()),
+        Fragment::Text { token } => write_body_text(token, sink),
     }
 }
 

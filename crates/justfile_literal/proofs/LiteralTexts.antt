@@ -1,16 +1,21 @@
 -- The texts of literals, and the bounds at which they are cut out of the lexeme.
-use Rattle.std.proofs.Common.{◌≡◌, ℕ, ◌+◌, ◌-◌, ◌<◌, ◌≤◌, Bool, true, if◌then◌else◌, IsTrue, List, length, slice_index, Ok, Some, option_map, IsUtf8, sym, ap, ◌∙◌, subst, arith}
+use Rattle.std.proofs.Common.{◌≡◌, ℕ, ◌+◌, ◌-◌, ◌<◌, ◌≤◌, Bool, true, if◌then◌else◌, IsTrue, List, length, slice_index, Result, Ok, Err, Some, option_map, IsUtf8, sym, ap, ◌∙◌, subst, arith, string_bytes}
+use Rattle.std.specs.Global.{Global}
+use Rattle.std.specs.Prelude.{String}
 use Rattle.std.specs.Str.{IsCharBoundary}
 use Rattle.std.proofs.lemmas.Str.{IsCharBoundary-after_ascii}
 use Rattle.std.proofs.lemmas.Bool.Decides.{nat_tests}
+use Rattle.justfile_token.specs.declared.expander.ExpandFault.{ExpandFault}
+use Rattle.justfile_token.specs.declared.expander.ExpandFault.TheVariants as expansion
 use Rattle.justfile_token.specs.declared.fault.Fault.{Fault}
 use Rattle.justfile_token.specs.declared.fault.Fault.TheVariants.{Compile, Memory, Numbers}
 use Rattle.justfile_token.specs.declared.string_kind.StringKind.{StringKind}
 use Rattle.justfile_token.specs.declared.token.Token.{Token}
+use Rattle.justfile_token.specs.Expander.{Refuses}
 use Rattle.justfile_token.specs.StringKind.{escapes}
 use Rattle.justfile_model.specs.LiteralTexts.Cook.{Cooks, IsCookFault}
 use Rattle.justfile_model.specs.LiteralTexts.FirstPiece as pieces
-use Rattle.justfile_model.specs.LiteralTexts.Literals.{Escape, by_escapes, escaped}
+use Rattle.justfile_model.specs.LiteralTexts.Literals.{Escape, Refused, by_answer, by_escapes, escaped}
 use Rattle.justfile_literal.specs.Literal.{IsTextFault, is_framed, literal_fault_of}
 use Rattle.justfile_token.specs.declared.compile_error_kind.CompileErrorKind.{CompileErrorKind}
 use Rattle.justfile_token.specs.declared.compile_error_kind.CompileErrorKind.TheVariants as errors
@@ -58,3 +63,11 @@ refused_string kind raw text token (Compile error) u e same c = record {
 }
 refused_string kind raw text token Memory u e same c = tt
 refused_string kind raw text token Numbers u e same c = elim c [ ]
+
+-- what an expander answers is the text, or why there is none
+pub answered : (answer : Result (List ℕ) (List ℕ)) (text : List ℕ) → answer ≡ Ok text → by_answer (Some answer) ≡ Ok text
+answered answer text e = ap (λ a. by_answer (Some a)) e
+
+pub answer_refused : (answer : Result (List ℕ) (List ℕ)) (fault : ExpandFault) (reason : String Global) → Refuses answer fault → fault ≡ expansion.Refused reason
+    → by_answer (Some answer) ≡ Err (Refused (string_bytes reason))
+answer_refused answer fault reason refuses is = ap (λ a. by_answer (Some a)) (subst (Refuses answer) is refuses)

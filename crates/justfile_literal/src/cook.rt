@@ -50,8 +50,10 @@ pub fn cook_string<'src>(
     while let Some((character, after_first)) = split_first(rest) {
         match read_piece(character, after_first) {
             Ok((value, next)) => {
-                push_piece(&mut cooked, value)?;
-                rest = next;
+                match push_piece(&mut cooked, value) {
+                    Ok(()) => rest = next,
+                    Err(_) => return Err(Fault::Memory),
+                }
             }
             Err(fault) => return Err(escape_fault(alloc, token, fault)),
         }

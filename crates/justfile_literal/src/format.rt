@@ -5,7 +5,7 @@ ghost use Rattle.justfile_model.specs.LiteralTexts.Literals.{between, end_len, c
 ghost use Rattle.justfile_literal.specs.Literal.{IsPartOf, IsTextFault, is_part};
 
 use crate::cook::replace_escapes;
-use justfile_token::{CompileResult, StringKind, StringLiteral, Token};
+use justfile_token::{CompileResult, Fault, StringKind, StringLiteral, Token};
 use justfile_vocabulary::FormatStringPart;
 use justfile_vocabulary::interpolation::{
     INTERPOLATION_END, INTERPOLATION_ESCAPE, INTERPOLATION_START,
@@ -30,13 +30,16 @@ pub fn format_part<'src>(
     ensures err { IfErr result
         (IsTextFault (cooked_format_text kind part (lexeme_of token.entry)) token.entry) }
 {
-    Ok(StringLiteral {
-        cooked: read_part_text(alloc, token, kind, part)?,
-        expand: false,
-        kind,
-        part: Some(part),
-        token,
-    })
+    match read_part_text(alloc, token, kind, part) {
+        Ok(cooked) => Ok(StringLiteral {
+            cooked,
+            expand: false,
+            kind,
+            part: Some(part),
+            token,
+        }),
+        Err(fault) => Err(fault),
+    }
 }
 
 /// Returns the text of the part, with its braces unescaped and, if the quotes are double, its
@@ -53,8 +56,10 @@ fn read_part_text<'src>(
     ensures err { IfErr result
         (IsTextFault (cooked_format_text kind part (lexeme_of token.entry)) token.entry) }
 {
-    let text = unescape_braces(alloc, strip_delimiters(token.lexeme(), kind, part))?;
-    replace_escapes(alloc, token, kind, text)
+    match unescape_braces(alloc, strip_delimiters(token.lexeme(), kind, part)) {
+        Ok(text) => replace_escapes(alloc, token, kind, text),
+        Err(_) => Err(Fault::Memory),
+    }
 }
 
 /// Returns the text with each `{{{{` replaced by `{{`, from left to right.

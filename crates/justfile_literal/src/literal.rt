@@ -32,9 +32,15 @@ pub fn string_literal<'src, X: Expander>(
     ensures err { IfErr result (IsTextFault (cooked_text (answers_by X.answer expander.now)
         (string_of expand (lexeme_of token.entry))) token.entry) }
 {
-    let text = read_string_text(alloc, token)?;
+    let text = match read_string_text(alloc, token) {
+        Ok(text) => text,
+        Err(fault) => return Err(fault),
+    };
     let cooked = if expand {
-        expand_text(alloc, token, text.as_str(), expander)?
+        match expand_text(alloc, token, text.as_str(), expander) {
+            Ok(expanded) => expanded,
+            Err(fault) => return Err(fault),
+        }
     } else {
         text
     };
@@ -86,11 +92,16 @@ pub fn command<'src>(alloc: Global, token: Token<'src>) -> CompileResult<'src, S
     ensures err { IfErr result (λ fault. (expander : Expansions)
         → IsTextFault (cooked_text expander (Command (lexeme_of token.entry))) token.entry fault) }
 {
-    let text = read_flush_text(alloc, token.lexeme())?;
-    if text.as_str().starts_with("#!") {
-        return Err(shebang_fault(token));
+    match read_flush_text(alloc, token.lexeme()) {
+        Ok(text) => {
+            if text.as_str().starts_with("#!") {
+                Err(shebang_fault(token))
+            } else {
+                Ok(text)
+            }
+        }
+        Err(_) => Err(Fault::Memory),
     }
-    Ok(text)
 }
 
 /// Returns the error at the token for a command that begins with `#!`.
@@ -109,8 +120,10 @@ fn read_string_text<'src>(alloc: Global, token: Token<'src>) -> CompileResult<'s
         ≡ Ok (string_bytes text)) }
     ensures err { IfErr result (IsTextFault (string_text (lexeme_of token.entry)) token.entry) }
 {
-    let text = read_flush_text(alloc, token.lexeme())?;
-    replace_escapes(alloc, token, literal_kind(token.lexeme()), text)
+    match read_flush_text(alloc, token.lexeme()) {
+        Ok(text) => replace_escapes(alloc, token, literal_kind(token.lexeme()), text),
+        Err(_) => Err(Fault::Memory),
+    }
 }
 
 /// Returns the text between the quotes, unindented if the quotes are tripled.

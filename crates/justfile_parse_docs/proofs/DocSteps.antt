@@ -1,5 +1,5 @@
 -- What the functions that move docs know about items.
-use Rattle.std.proofs.Common.{◌≡◌, ◌∙◌, ℕ, ◌+◌, ◌<◌, Bool, true, false, not, ◌&&◌, ◌||◌, IsTrue, List, [], ◌∷◌, ◌++◌, length, map, get_or, take, reverse, Option, Some, None, is_some, codes, refl, sym, ap, subst, arith, string_bytes}
+use Rattle.std.proofs.Common.{◌≡◌, ◌∙◌, ℕ, ◌+◌, ◌<◌, Bool, true, false, not, ◌&&◌, ◌||◌, IsTrue, List, [], ◌∷◌, ◌++◌, length, map, get_or, take, reverse, Option, Some, None, is_some, codes, if◌then◌else◌, refl, sym, ap, subst, arith, string_bytes}
 use Rattle.std.specs.Prelude.{String, nat_eq}
 use Rattle.std.specs.List.{starts_with}
 use Rattle.std.specs.Option.{option_map}
@@ -19,7 +19,7 @@ use Rattle.justfile_item.specs.declared.item.Item.{Item}
 use Rattle.justfile_item.specs.declared.item.Item.TheVariants as items
 use Rattle.justfile_model.specs.Meanings.AttributeKinds.{same_attribute}
 use Rattle.justfile_model.specs.Trees.ContentKeys.{kind_of_attribute}
-use Rattle.justfile_model.specs.Grammars.Docs.{LineEnd, doc_in}
+use Rattle.justfile_model.specs.Grammars.Docs.{LineEnd, Other, doc_in}
 use Rattle.justfile_model.specs.Grammars.Files.{sets_doc}
 use Rattle.justfile_model.specs.Trees.Tree as tree
 use Rattle.justfile_parse_docs.specs.Docs.{LeafItem, comment_of, doc_before, doc_first, is_line_end}
@@ -92,13 +92,10 @@ module _ (xs : List Item) (k m n : ℕ) (last : k + 1 ≡ length xs) (second : m
       ∙ ap (λ (i : LeafItem). doc_first (i ∷ item_tree y ∷ item_tree z ∷ others)) (line_end (item_tree x) ends)
       ∙ ap (λ (i : LeafItem). doc_first (tree.Newline ∷ i ∷ item_tree z ∷ others)) (comment_is (item_tree y) text comment)
 
-  -- a line ends before the comment
-  pub after_line : is_line_end (item_tree z) ≡ true → doc_before (map item_tree xs) ≡ doc_in LineEnd text
-  after_line h = doc_of_three ∙ ap (λ (i : LeafItem). doc_first (tree.Newline ∷ tree.Comment text ∷ i ∷ others)) (line_end (item_tree z) h)
-
-  -- something else stands before it on its line
-  pub after_other : is_line_end (item_tree z) ≡ false → doc_before (map item_tree xs) ≡ None
-  after_other h = doc_of_three ∙ no_start (item_tree z) others text h
+  -- whether a line ends before the comment
+  pub after_item : (b : Bool) → is_line_end (item_tree z) ≡ b → doc_before (map item_tree xs) ≡ doc_in (if b then LineEnd else Other) text
+  after_item true h = doc_of_three ∙ ap (λ (i : LeafItem). doc_first (tree.Newline ∷ tree.Comment text ∷ i ∷ others)) (line_end (item_tree z) h)
+  after_item false h = doc_of_three ∙ no_start (item_tree z) others text h
 
 -- ---- an item that can take a doc
 

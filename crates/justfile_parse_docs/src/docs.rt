@@ -1,12 +1,10 @@
 //! The docs of recipes and modules: the comments before them.
-ghost use Rattle.std.specs.Prelude.{◌≡◌, ◌+◌, ◌≤◌, ◌&&◌, IfOk, IsTrue, OnOk, Some, codes, map, nat_eq, not, string_bytes, true};
-ghost use Rattle.std.specs.List.{starts_with};
+ghost use Rattle.std.specs.Prelude.{◌≡◌, ◌+◌, ◌≤◌, ◌&&◌, IfOk, OnOk, Some, map, not, string_bytes, true};
 ghost use Rattle.std.specs.Option.{is_some, option_map};
 ghost use Rattle.justfile_attribute_set.specs.AttributeSet.{attributes_of};
 ghost use Rattle.justfile_attribute_set.specs.Attributes.{has_kind};
 ghost use Rattle.justfile_vocabulary.specs.declared.attribute_kind.AttributeKind.TheVariants as kinds;
-ghost use Rattle.justfile_model.specs.Grammars.Docs.{doc_in, item_with_doc};
-ghost use Rattle.justfile_model.specs.Grammars.Docs as before;
+ghost use Rattle.justfile_model.specs.Grammars.Docs.{item_with_doc};
 ghost use Rattle.justfile_model.specs.Grammars.Files.{sets_doc};
 ghost use Rattle.justfile_item.specs.declared.item.Item.TheVariants as variants;
 ghost use Rattle.justfile_parse_docs.specs.Docs.{IsNextItem, IsWhole, comment_of, doc_before, is_line_end, item_can_take_doc, taken_docs};
@@ -15,6 +13,7 @@ ghost use Rattle.justfile_parse_item.specs.DerivedFields.{HaveDerivedFields, Has
 
 use justfile_attribute_set::AttributeSet;
 use justfile_item::Item;
+use justfile_leaves::{find_first_doc, find_later_doc};
 use justfile_vocabulary::AttributeKind;
 use std::alloc::{AllocError, Global};
 
@@ -161,11 +160,7 @@ fn find_doc<'src>(items: &[Item<'src>]) -> Option<&'src str>
     if count == 2 {
         return find_first_doc(comment);
     }
-    if is_line_end(&items[count - 3]) {
-        find_text(comment)
-    } else {
-        None
-    }
+    find_later_doc(is_line_end(&items[count - 3]), comment)
 }
 
 /// Whether the item is a line end.
@@ -183,26 +178,4 @@ fn find_comment<'src>(item: &Item<'src>) -> Option<&'src str>
         Item::Comment(comment) => Some(*comment),
         _ => None,
     }
-}
-
-/// Returns the doc in the first comment of a file, or `None` if the comment begins with `#!` or is
-/// empty.
-fn find_first_doc(comment: &str) -> Option<&str>
-    requires { IsTrue (starts_with nat_eq comment.now (codes "#")) }
-    ensures { option_map (λ doc. doc.now) result ≡ doc_in before.Nothing comment.now }
-{
-    if comment.starts_with("#!") {
-        return None;
-    }
-    find_text(comment)
-}
-
-/// Returns the text of a comment after its `#`, without the whitespace around it, or `None` if that
-/// is empty.
-fn find_text(comment: &str) -> Option<&str>
-    requires { IsTrue (starts_with nat_eq comment.now (codes "#")) }
-    ensures { option_map (λ doc. doc.now) result ≡ doc_in before.LineEnd comment.now }
-{
-    let text = comment.strip_prefix("#")?.trim();
-    if text.is_empty() { None } else { Some(text) }
 }

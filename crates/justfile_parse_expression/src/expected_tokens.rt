@@ -68,12 +68,6 @@ impl ExpectedTokens {
         ExpectedTokens { bits: Cell::new(0) }
     }
 
-    /// Adds the kinds that an expression begins with.
-    pub fn add_expression(&self) {
-        self.add(TokenKind::Slash);
-        self.add_value();
-    }
-
     /// Adds the kinds that a value begins with.
     pub(crate) fn add_value(&self) {
         self.add_all(&[

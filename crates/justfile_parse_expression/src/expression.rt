@@ -360,7 +360,10 @@ impl<'run, 'src, X: Expander> ParserState<'run, 'src, X> {
     ) -> Result<Box<Expression<'src>>, ExpressionError<'src>>
         ensures { UnlessMemory result (λ e. e.value ≡ expression.entry) }
     {
-        Ok(Box::new(self.alloc, expression)?)
+        match Box::new(self.alloc, expression) {
+            Ok(expression) => Ok(expression),
+            Err(_failed) => Err(ExpressionError::Memory),
+        }
     }
 
     /// Takes the next token if it is an operator of the level.

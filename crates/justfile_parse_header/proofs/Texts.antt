@@ -17,14 +17,14 @@ use Rattle.justfile_token.specs.declared.token.Token.{Token}
 use Rattle.justfile_recipe_header.specs.declared.parameter.Parameter.{Parameter}
 use Rattle.justfile_model.specs.LiteralTexts.Literals.{string_of}
 use Rattle.justfile_model.specs.Meanings.Meaning.{first_of, text_of}
-use Rattle.justfile_model.specs.Meanings.RecipeRules.{option_of, with_text}
+use Rattle.justfile_model.specs.Meanings.RecipeRules.{first_character, if_named, option_of, with_text}
 use Rattle.justfile_model.specs.Trees.LeafView.{or_empty}
 use Rattle.justfile_model.specs.Trees.Tree.{OptionName}
 use Rattle.justfile_parse_base.specs.TextSets.{HaveSame, texts_in}
 use Rattle.justfile_parse_base.proofs.TextSetLemmas.{same_more, same_then}
 use Rattle.justfile_parse_header.specs.Arguments.{is_named}
 use Rattle.justfile_parse_header.specs.HeaderTable.{LeafParameter}
-use Rattle.justfile_parse_header.specs.Options.{character_of, option_in}
+use Rattle.justfile_parse_header.specs.Options.{option_in}
 use Rattle.justfile_parse_header.specs.Tree.{parameter_tree}
 use Rattle.justfile_expression.specs.LeafViews.{views_leaves}
 use Rattle.justfile_expression.specs.LeafTree.{Leaf, Literal, leaf_tree_of, literal_of}
@@ -93,6 +93,6 @@ first_at (x ∷ xs) = refl
 
 -- by its first character
 pub character_is : (name : StringLiteral) (literal : Option StringLiteral) (key : Option Name) (text : List ℕ) (place : Token) → Some (text, place) ≡ option_in name literal key
-    → (first : Option ℕ) → first ≡ slice_get (chars text) 0 → option_map (λ (c : ℕ). (c, place)) first ≡ character_of (called_by name literal key)
+    → (first : Option ℕ) → first ≡ slice_get (chars text) 0 → option_map (λ (c : ℕ). (c, place)) first ≡ if_named (first_character views_leaves) (called_by name literal key)
 character_is name literal key text place is first at =
-    ap (option_map (λ (c : ℕ). (c, place))) (at ∙ sym (first_at (chars text))) ∙ ap character_of (is ∙ option_is name literal key)
+    ap (option_map (λ (c : ℕ). (c, place))) (at ∙ sym (first_at (chars text))) ∙ ap (if_named (first_character views_leaves)) (is ∙ option_is name literal key)

@@ -4,11 +4,11 @@ use Rattle.std.specs.Option.{is_some, option_map}
 use Rattle.justfile_token.specs.declared.token.Token.{Token}
 use Rattle.justfile_recipe_header.specs.declared.parameter.Parameter.{Parameter}
 use Rattle.justfile_model.specs.Meanings.AttributeRules.{of_some}
-use Rattle.justfile_model.specs.Meanings.RecipeRules.{bound_key, is_variadic, rules_for}
+use Rattle.justfile_model.specs.Meanings.RecipeRules.{bound_key, is_variadic, long_option, rules_for, short_option}
 use Rattle.justfile_model.specs.Meanings.Rules.{ArgAttributeRequiresMultipleOrVariadic, Broken, FlagWithDefault, broken_if}
 use Rattle.justfile_model.specs.Trees.Tree.{Bound}
 use Rattle.justfile_model.specs.declared.parameter_kind.ParameterKind.{ParameterKind}
-use Rattle.justfile_parse_header.specs.Options.{called, character_of, of_rules}
+use Rattle.justfile_parse_header.specs.Options.{of_rules}
 use Rattle.justfile_parse_header.specs.declared.arg_attribute.ArgAttribute.{ArgAttribute}
 use Rattle.justfile_parse_header.specs.HeaderTable.{LeafParameter, Rules}
 use Rattle.justfile_parse_header.specs.Tree.{parameter_name, parameter_tree, value_tree}
@@ -17,11 +17,11 @@ use Rattle.justfile_expression.specs.LeafViews.{views_leaves}
 
 -- the name of the long option
 abbrev pub long_text : Rules → Option (List ℕ)
-long_text rules = option_map (λ option. option.0) (called rules rules.long)
+long_text rules = option_map (λ option. option.0) (long_option views_leaves rules)
 
 -- the first character of the name of the short option
 abbrev pub short_character : Rules → Option ℕ
-short_character rules = option_map (λ option. option.0) (character_of (called rules rules.short))
+short_character rules = option_map (λ option. option.0) (short_option views_leaves rules)
 
 abbrev pub bound_number : Option (Bound Token) → Option ℕ
 bound_number bound = option_map (λ (b : Bound Token). b.number) bound

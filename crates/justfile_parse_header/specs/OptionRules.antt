@@ -1,6 +1,5 @@
 -- The steps that check the options of a recipe, and the features that attributes use.
-use Rattle.std.specs.Prelude.{ℕ, Bool, List, [], ◌∷◌, ◌++◌, Option, Some, None, Ok, nat_eq}
-use Rattle.std.specs.List.{list_any}
+use Rattle.std.specs.Prelude.{ℕ, Bool, List, [], Option, Some, None, Ok, nat_eq}
 use Rattle.std.specs.Str.{bytes_eq}
 use Rattle.justfile_token.specs.declared.name.Name.{Name}
 use Rattle.justfile_token.specs.declared.token.Token.{Token}
@@ -8,12 +7,10 @@ use Rattle.justfile_model.specs.Meanings.AttributeRules.{rules_in}
 use Rattle.justfile_model.specs.Grammars.Features.{Noted, rules_features}
 use Rattle.justfile_model.specs.Readers.HeaderReader.{obeying}
 use Rattle.justfile_model.specs.Readers.ReaderState.{◌>>=◌}
-use Rattle.justfile_model.specs.Meanings.RecipeRules.{long_options, repeated_broken, short_options}
-use Rattle.justfile_model.specs.Meanings.Rules.{Broken, DuplicateLongOption, DuplicateShortOption, Rule, broken_if}
+use Rattle.justfile_model.specs.Meanings.RecipeRules.{and_named, repeated_broken}
+use Rattle.justfile_model.specs.Meanings.Rules.{DuplicateLongOption, DuplicateShortOption, Rule}
 use Rattle.justfile_parse_expression.specs.TableReader.{Read, State}
-use Rattle.justfile_parse_header.specs.HeaderTable.{Rules}
 use Rattle.justfile_parse_header.specs.Options.{LeafAttribute, long_in, of_rules, short_in}
-use Rattle.justfile_expression.specs.LeafViews.{views_leaves}
 
 -- the features that an attribute uses
 abbrev pub features_in : LeafAttribute → List (Noted Token)
@@ -25,20 +22,12 @@ bound_place_in name key None = None
 bound_place_in name (Some key) (Some number) = Some key.token
 bound_place_in name None (Some number) = Some name
 
--- the rules that long options break whose name is taken
-abbrev pub longs_from : (recipe : Token) (before : List (List ℕ)) → List Rules → List (Broken Token)
-longs_from recipe before rules = repeated_broken bytes_eq (λ option. DuplicateLongOption option recipe) before (long_options views_leaves rules)
-
-abbrev pub shorts_from : (recipe : Token) (before : List ℕ) → List Rules → List (Broken Token)
-shorts_from recipe before rules = repeated_broken nat_eq (λ option. DuplicateShortOption option recipe) before (short_options views_leaves rules)
-
 -- adds an option to those before it, which it may not repeat
 module _ {X : Type 0} (same : X → X → Bool) (rule : X → Rule Token) where
   abbrev pub option_step : (before : List X) → Option (X × Token) → State → Read (List X)
-  option_step before None s = Ok (before, s)
-  option_step before (Some option) s = do
-    new ← obeying (broken_if (list_any (same option.0) before) (rule option.0) option.1) s
-    Ok (before ++ option.0 ∷ [], new.1)
+  option_step before option s = do
+    new ← obeying (repeated_broken same rule before option) s
+    Ok (and_named before option, new.1)
 
 -- adds the long option of an attribute to those of others
 unfoldable pub long_step : (recipe : Token) (before : List (List ℕ)) → LeafAttribute → State → Read (List (List ℕ))
@@ -47,8 +36,3 @@ long_step recipe before a s = option_step bytes_eq (λ option. DuplicateLongOpti
 -- adds the short option of an attribute to those of others
 unfoldable pub short_step : (recipe : Token) (before : List ℕ) → LeafAttribute → State → Read (List ℕ)
 short_step recipe before a s = option_step nat_eq (λ option. DuplicateShortOption option recipe) before (short_in a) s
-
--- these options, and that of an attribute after them, if it has one
-abbrev pub then_option : {X : Type 0} → (before : List X) → Option (X × Token) → List X
-then_option before None = before
-then_option before (Some option) = before ++ option.0 ∷ []

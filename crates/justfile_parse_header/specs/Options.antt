@@ -1,13 +1,12 @@
 -- What an `arg` attribute sets for its parameter.
 use Rattle.std.specs.Prelude.{ℕ, Bool, false, List, Option, Some, None, string_bytes}
-use Rattle.std.specs.Option.{is_some, option_map}
+use Rattle.std.specs.Option.{is_some}
 use Rattle.justfile_token.specs.declared.name.Name.{Name}
 use Rattle.justfile_token.specs.declared.string_literal.StringLiteral.{StringLiteral}
 use Rattle.justfile_token.specs.declared.token.Token.{Token}
 use Rattle.justfile_model.specs.Meanings.AttributeRules.{rules_in}
-use Rattle.justfile_model.specs.Meanings.RecipeRules.{bound_key, first_character, option_of, with_text}
+use Rattle.justfile_model.specs.Meanings.RecipeRules.{bound_key, long_option, short_option}
 use Rattle.justfile_model.specs.Trees.Tree as tree
-use Rattle.justfile_model.specs.Trees.Tree.{OptionName}
 use Rattle.justfile_parse_header.specs.HeaderTable.{Rules}
 use Rattle.justfile_expression.specs.LeafViews.{views_leaves}
 use Rattle.justfile_expression.specs.LeafTree.{Leaf}
@@ -37,21 +36,13 @@ bound_token None key = None
 bound_token (Some number) key = key
 
 -- the name of an option, and the token where an error about it is reported
-abbrev pub called : Rules → OptionName Leaf Token → Option (List ℕ × Token)
-called rules option = option_map (with_text views_leaves) (option_of views_leaves rules.name option)
-
 abbrev pub option_in : (name : StringLiteral) (literal : Option StringLiteral) (key : Option Name) → Option (List ℕ × Token)
 option_in name literal (Some key) = Some (string_bytes name.cooked, key.token)
 option_in name (Some literal) None = Some (string_bytes literal.cooked, literal.token)
 option_in name None None = None
 
 abbrev pub long_in : LeafAttribute → Option (List ℕ × Token)
-long_in a = of_rules None (λ r. called r r.long) (rules_in a)
-
--- the first character of the name of an option
-abbrev pub character_of : Option (List ℕ × Token) → Option (ℕ × Token)
-character_of None = None
-character_of (Some option) = first_character views_leaves option
+long_in a = of_rules None (λ r. long_option views_leaves r) (rules_in a)
 
 abbrev pub short_in : LeafAttribute → Option (ℕ × Token)
-short_in a = of_rules None (λ r. character_of (called r r.short)) (rules_in a)
+short_in a = of_rules None (λ r. short_option views_leaves r) (rules_in a)

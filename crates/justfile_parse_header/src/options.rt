@@ -6,6 +6,7 @@ ghost use Rattle.justfile_attribute_rules.specs.Made.{IsFaultOfRule};
 ghost use Rattle.justfile_model.specs.Grammars.Features.{noted_at, rules_features};
 ghost use Rattle.justfile_model.specs.Readers.NewAttribute as new;
 ghost use Rattle.justfile_model.specs.Readers.ReaderState.{with};
+ghost use Rattle.justfile_model.specs.Meanings.RecipeRules.{and_named};
 ghost use Rattle.justfile_model.specs.Meanings.Rules.{DuplicateLongOption, DuplicateShortOption};
 ghost use Rattle.justfile_parse_base.specs.ParseErrors.{ReadsRuled, ChecksRules};
 ghost use Rattle.justfile_parse_base.specs.TextSets.{HaveSame, texts_in};
@@ -13,7 +14,7 @@ ghost use Rattle.justfile_parse_expression.specs.MethodResults.{UnlessMemory};
 ghost use Rattle.justfile_parse_expression.specs.TableReader.{State};
 ghost use Rattle.justfile_parse_expression.specs.View.{state_of};
 ghost use Rattle.justfile_parse_header.specs.HeaderTable as reader;
-ghost use Rattle.justfile_parse_header.specs.OptionRules.{bound_place_in, features_in, long_step, longs_from, short_step, shorts_from, then_option};
+ghost use Rattle.justfile_parse_header.specs.OptionRules.{bound_place_in, features_in, long_step, short_step};
 ghost use Rattle.justfile_parse_header.specs.Options.{long_in};
 ghost use Rattle.justfile_parse_header.specs.Tree.{rules_of};
 
@@ -115,34 +116,24 @@ fn find_bound_place<'src>(
     }
 }
 
-/// Refuses options of a recipe with the same name, long ones before short ones.
-#[tactic(auto, using(crate::proofs::SameOptions::both_obeyed, crate::proofs::SameOptions::first_broken))]
-pub(crate) fn check_options<'src>(
-    attributes: &AttributeSet<'src>,
+/// Refuses options of a recipe with the same name: attribute by attribute, of each the long option
+/// before the short one.
+pub(crate) fn check_options<'run, 'src>(
+    attributes: &'run AttributeSet<'src>,
     alloc: Global,
     recipe: Token<'src>,
 ) -> Result<(), ParseError<'src>>
     ensures { ChecksRules (reader.same_options recipe.entry (rules_of attributes.now)) result }
 {
-    check_longs(attributes, alloc, recipe)?;
-    check_shorts(attributes, alloc, recipe)
-}
-
-/// Refuses long options with the same name.
-fn check_longs<'run, 'src>(
-    attributes: &'run AttributeSet<'src>,
-    alloc: Global,
-    recipe: Token<'src>,
-) -> Result<(), ParseError<'src>>
-    ensures { ChecksRules (longs_from recipe.entry [] (rules_of attributes.now)) result }
-{
-    let mut before: BTreeSet<&'run str> = BTreeSet::new(alloc);
+    let mut longs: BTreeSet<&'run str> = BTreeSet::new(alloc);
+    let mut shorts: Vec<char> = Vec::new(alloc);
     let mut left = attributes.iter();
     'attributes: loop {
         let Some(attribute) = left.next() else {
             return Ok(());
         };
-        check_long(attribute, alloc, recipe, &mut before)?;
+        check_long(attribute, alloc, recipe, &mut longs)?;
+        check_short(attribute, alloc, recipe, &mut shorts)?;
     }
 }
 
@@ -155,10 +146,10 @@ fn check_long<'run, 'src>(
     before: &mut BTreeSet<&'run str>,
 ) -> Result<(), ParseError<'src>>
     ensures reads { (s : State) → ReadsRuled
-        (λ _. then_option (texts_in before.old) (long_in (leaf_attribute_of attribute.now))) result
+        (λ _. and_named (texts_in before.old) (long_in (leaf_attribute_of attribute.now))) result
         s (long_step recipe.entry (texts_in before.old) (leaf_attribute_of attribute.now) s) }
     ensures added { OnOk result (HaveSame
-        (then_option (texts_in before.old) (long_in (leaf_attribute_of attribute.now)))
+        (and_named (texts_in before.old) (long_in (leaf_attribute_of attribute.now)))
         (texts_in before.new)) }
 {
     let Some((option, token)) = find_long(attribute) else {
@@ -187,24 +178,6 @@ fn same_long_fault<'src>(
             option: Switch::Long(option),
         })),
         Err(_) => Fault::Memory,
-    }
-}
-
-/// Refuses short options with the same name.
-fn check_shorts<'src>(
-    attributes: &AttributeSet<'src>,
-    alloc: Global,
-    recipe: Token<'src>,
-) -> Result<(), ParseError<'src>>
-    ensures { ChecksRules (shorts_from recipe.entry [] (rules_of attributes.now)) result }
-{
-    let mut before: Vec<char> = Vec::new(alloc);
-    let mut left = attributes.iter();
-    'attributes: loop {
-        let Some(attribute) = left.next() else {
-            return Ok(());
-        };
-        check_short(attribute, alloc, recipe, &mut before)?;
     }
 }
 

@@ -19,7 +19,7 @@ use justfile_expression::Expression;
 use justfile_expression_parser::parse_expression;
 use justfile_parse_base::{ParseError, rule_error};
 use justfile_parse_expression::significant::SignificantToken;
-use justfile_parse_expression::{ExpressionError, ParserState, SyntaxError, is_word};
+use justfile_parse_expression::{ExpressionError, ParserState, is_word};
 use justfile_setting::{Setting, SettingForm, setting_form};
 use justfile_token::Expander;
 use justfile_vocabulary::{Keyword, TokenKind};
@@ -158,10 +158,6 @@ fn parse_interpreter<'src, X: Expander>(
         reader.interpreter }
 {
     parser.expect(TokenKind::BracketL)?;
-    if parser.probe_kinds(&[TokenKind::BracketR]) {
-        parser.expected_tokens.add_expression();
-        return Err(ExpressionError::Refused(SyntaxError::Unexpected));
-    }
     parse_command(parser)
 }
 

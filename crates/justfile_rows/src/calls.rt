@@ -1,45 +1,14 @@
-//! Calls that no text leads to: attributes and interpreters that are made, files of modules, and
-//! faults.
+//! Calls that no text leads to: files of modules.
 
 use justfile_syntax::ast::Ast;
 use justfile_syntax::expander::Unchanged;
-use justfile_syntax::format::FormatFault;
 use justfile_syntax::lexer::Lexer;
 use justfile_syntax::namepath::Namepath;
 use justfile_syntax::numerator::Numerator;
 use justfile_syntax::parser::{Parser, RECURSION_LIMIT};
 use justfile_syntax::version::Version;
 use row_items::items::push_items;
-use row_notation::{Answer, field_at, names_of, number_at, path_of, push_fault};
-use row_parts::made::{push_keyed, push_new};
-use std::alloc::{AllocError, AllocFailed};
-
-/// Writes the attribute that is made of a number of arguments and the names of a text.
-pub(crate) fn makes(answer: &mut Answer, fields: &[String]) {
-    match names_of(answer.alloc(), field_at(fields, 1)) {
-        Ok(names) => push_new(&names, answer, number_at(fields, 0) as usize),
-        Err(_) => answer.fail(),
-    }
-}
-
-/// Writes the attribute that is made of keys and the two names of a text.
-pub(crate) fn makes_keyed(answer: &mut Answer, fields: &[String]) {
-    match names_of(answer.alloc(), field_at(fields, 1)) {
-        Ok(names) => push_keyed(&names, answer, field_at(fields, 0)),
-        Err(_) => answer.fail(),
-    }
-}
-
-/// Writes the lines of the fault that a failed allocation or a failed list becomes, or those of the
-/// fault that numbers ran out.
-pub(crate) fn fault_lines(answer: &mut Answer, which: &str) {
-    let fault = match which {
-        "memory" => FormatFault::from(AllocError),
-        "list" => FormatFault::from(AllocFailed { value: 1u8 }),
-        _ => FormatFault::Numbers,
-    };
-    answer.push(fault.lines());
-}
+use row_notation::{Answer, field_at, path_of, push_fault};
 
 /// Parses the tokens of a text as the file of the module with a path. Writes the file's module, its
 /// working directory and its items.

@@ -14,17 +14,14 @@
 #![tactic(auto)]
 
 mod beginnings;
-mod callers;
 mod calls;
 mod expansion;
 mod fields;
 mod files;
 mod printing;
-mod program;
 mod resolution;
 mod roots;
 mod scarce;
-mod surveys;
 mod symbols;
 mod word;
 

@@ -4,6 +4,7 @@
 
 mod chunk;
 mod colors;
+mod commit;
 mod completion;
 mod justfiles;
 mod links;
@@ -12,13 +13,50 @@ mod modules;
 mod places;
 mod ranges;
 
+use commit::COMMIT;
 use editor_server::serve;
 use justfiles::Justfiles;
+use std::env;
 use std::io::{self, BufReader};
 use std::process::ExitCode;
 
-/// Serves an editor over the standard streams, and returns the exit status.
+/// What `--help` writes.
+const HELP: &str = "\
+A server of the Language Server Protocol for justfiles, over standard input and output. An editor
+starts it.
+
+usage: justfile_server
+
+-h, --help     writes this text
+-V, --version  writes the version
+
+Other arguments mean nothing.
+";
+
+/// Writes the text that the first argument asks for, if it asks for one. Returns whether it did.
+fn answer(rt: &HostRuntime) -> io::Result<bool> {
+    let Ok(mut arguments) = env::args(rt) else {
+        return Ok(false);
+    };
+    let Some(word) = arguments.nth(1) else {
+        return Ok(false);
+    };
+    match word.as_str() {
+        "-h" | "--help" => print!(rt; "{HELP}")?,
+        "-V" | "--version" => {
+            println!(rt; "justfile_server, commit {COMMIT}, for the language of just 1.58.0")?;
+        }
+        _ => return Ok(false),
+    }
+    Ok(true)
+}
+
+/// Serves an editor over the standard streams, unless an argument asks for a text, and returns the
+/// exit status.
 fn run(rt: &HostRuntime) -> io::Result<u8> {
+    if answer(rt)? {
+        return Ok(0);
+    }
     let mut reader = BufReader::new(rt.alloc(), rt.stdin())?;
     let mut writer = rt.stdout();
     let language = Justfiles { folders: rt };

@@ -1,30 +1,32 @@
 //! Formats justfiles in place, or tells which ones aren't formatted, or how they would change.
 #![tactic(auto)]
 
+mod commit;
 mod justfile;
 mod returned;
 
+use commit::COMMIT;
 use justfile::Justfile;
 use justfile_files::folder::Folder;
-use justfile_files::question::{answer_to, lacks_names};
-use justfile_files::request::Task;
+use justfile_files::help::HELP;
+use justfile_files::request::{Request, Task, misuse_lines, request_in};
 use justfile_files::run::run;
-use justfile_files::stream::stream_in;
-use std::alloc::AllocError;
+use justfile_files::visible::visible_name;
 use std::io;
 use std::process::ExitCode;
 use system_folder::arguments::{Arguments, read_arguments};
 use system_folder::file_system::FileSystem;
-use system_folder::find_justfile;
 use system_folder::stream::Stream;
+use system_folder::{SearchError, find_justfile};
 
-/// Does what the arguments ask for with the files of a folder, and returns the status.
-fn run_on<D: Folder>(rt: &HostRuntime, arguments: &[String], folder: &mut D) -> u8 {
+/// Does a task with the files that names lead to in a folder, and returns the status.
+fn run_on<D: Folder>(rt: &HostRuntime, task: Task, names: &[String], folder: &mut D) -> u8 {
     let mut output = rt.stdout();
     let mut errors = rt.stderr();
     run(
         rt.alloc(),
-        arguments,
+        task,
+        names,
         &Justfile,
         folder,
         &mut output,
@@ -32,44 +34,83 @@ fn run_on<D: Folder>(rt: &HostRuntime, arguments: &[String], folder: &mut D) -> 
     )
 }
 
-/// Returns the arguments that ask for a task with the file of a name.
-fn arguments_for(rt: &HostRuntime, task: Task, name: &str) -> Result<Vec<String>, AllocError> {
-    let mut arguments = Vec::new(rt.alloc());
-    match task {
-        Task::Format | Task::FormatAndName => {}
-        Task::Check => arguments.push("--check".to_string(rt.alloc())?)?,
-        Task::Diff => arguments.push("--diff".to_string(rt.alloc())?)?,
+/// Does a task with the files that names lead to, and returns the status. Files that it made and
+/// that are left are an error.
+fn run_on_files(
+    rt: &HostRuntime,
+    task: Task,
+    names: &[String],
+    garbled: &[String],
+) -> io::Result<u8> {
+    let mut folder = FileSystem::new(rt, garbled);
+    let status = run_on(rt, task, names, &mut folder);
+    for path in folder.leftovers() {
+        let path = visible_name(rt.alloc(), path.as_str())?;
+        eprintln!(rt; "error: {path}: can't be removed")?;
     }
-    arguments.push("--".to_string(rt.alloc())?)?;
-    arguments.push(name.to_string(rt.alloc())?)?;
-    Ok(arguments)
+    Ok(if folder.leftovers().is_empty() {
+        status
+    } else {
+        3
+    })
 }
 
-/// Does the task with standard input, and returns the status.
-fn run_on_stream(rt: &HostRuntime, task: Task, name: &str) -> io::Result<u8> {
-    let arguments = arguments_for(rt, task, name)?;
-    let mut stream = Stream::new(rt);
-    let status = run_on(rt, &arguments, &mut stream);
-    if task == Task::Format && status == 0 {
-        stream.write_unchanged()?;
+/// Does a task with the justfile that `just` would find, and returns the status.
+fn run_on_nearest(rt: &HostRuntime, task: Task) -> io::Result<u8> {
+    let error = match find_justfile(rt) {
+        Ok(path) => return run_on_files(rt, task, &[path], &[]),
+        Err(error) => error,
+    };
+    match error {
+        SearchError::System(error) => return Err(error),
+        SearchError::Missing => eprintln!(rt; "error: no justfile found")?,
+        SearchError::Two(one, other) => eprintln!(rt;
+            "error: {one} and {other} are both justfiles"
+        )?,
     }
-    Ok(status)
+    Ok(3)
+}
+
+/// Does a task with standard input, and returns the status.
+fn run_on_stream(rt: &HostRuntime, task: Task, name: &str) -> io::Result<u8> {
+    let mut stream = Stream::new(rt);
+    let status = run_on(rt, task, &[name.to_string(rt.alloc())?], &mut stream);
+    if task != Task::Format || status != 0 {
+        return Ok(status);
+    }
+    let Err(error) = stream.write_unchanged() else {
+        return Ok(0);
+    };
+    let name = visible_name(rt.alloc(), name)?;
+    eprintln!(rt; "error: {name}: can't be written: {error}")?;
+    Ok(3)
+}
+
+/// Does what is asked for, and returns the status.
+fn answer(rt: &HostRuntime, request: Request<'_>, garbled: &[String]) -> io::Result<u8> {
+    match request {
+        Request::Help => print!(rt; "{HELP}")?,
+        Request::Version => {
+            println!(rt; "justfiles, commit {COMMIT}, for the language of just 1.58.0")?;
+        }
+        Request::Files(task, names) => return run_on_files(rt, task, names, garbled),
+        Request::Nearest(task) => return run_on_nearest(rt, task),
+        Request::Stream(task, name) => return run_on_stream(rt, task, name),
+    }
+    Ok(0)
 }
 
 /// Does what the arguments ask for, and returns the status.
 fn run_all(rt: &HostRuntime) -> io::Result<u8> {
-    let Arguments { mut words, garbled } = read_arguments(rt)?;
-    if lacks_names(&words) {
-        words.push(find_justfile(rt, rt.alloc())?)?;
+    let Arguments { words, garbled } = read_arguments(rt)?;
+    match request_in(&words) {
+        Ok(request) => answer(rt, request, &garbled),
+        Err(misuse) => {
+            let lines = misuse_lines(rt.alloc(), misuse)?;
+            eprint!(rt; "{lines}")?;
+            Ok(3)
+        }
     }
-    if let Some(answer) = answer_to(&words) {
-        print!(rt; "{answer}")?;
-        return Ok(0);
-    }
-    if let Some((task, name)) = stream_in(&words) {
-        return run_on_stream(rt, task, name);
-    }
-    Ok(run_on(rt, &words, &mut FileSystem::new(rt, &garbled)))
 }
 
 fn main(rt: HostRuntime) -> ExitCode {

@@ -1,6 +1,7 @@
 //! The bodies of messages.
-ghost use Rattle.std.specs.Prelude.{◌≡◌, IfOk, length};
+ghost use Rattle.std.specs.Prelude.{◌≡◌, ◌<◌, ◌≤◌, IfOk, OnOk, length};
 ghost use Rattle.std.specs.Io.KnownBytes.{Consumes};
+ghost use Rattle.message_stream.specs.Header.{Skips, SkipsSome};
 
 use std::alloc::Global;
 use std::io::{self, Read};
@@ -25,16 +26,31 @@ pub(crate) fn read_body<R: Read>(alloc: Global, count: usize, reader: &mut R) ->
 /// # Errors
 ///
 /// Reading failed.
-pub(crate) fn skip_body<R: Read>(count: usize, reader: &mut R) -> io::Result<()> {
-    let mut piece = [0u8; 4096];
+#[tactic(auto, using(crate::proofs::Headers::skipped_all, crate::proofs::Headers::skipped_none, crate::proofs::Headers::skipped_to_end))]
+pub(crate) fn skip_body<R: Read>(count: usize, reader: &mut R) -> io::Result<()>
+    ensures { OnOk result (Skips count (R.remaining reader.old) (R.remaining reader.new)) }
+{
     let mut left = count;
     'pieces: while left > 0 {
-        let room = left.min(piece.len());
-        let read = reader.read(&mut piece[..room])?;
-        if read == 0 {
-            break;
+        let skipped = skip_piece(left, reader)?;
+        if skipped == 0 {
+            return Ok(());
         }
-        left -= read.min(left);
+        left -= skipped;
     }
     Ok(())
+}
+
+/// Passes over some bytes, no more than so many, which aren't none. Returns how many, none only at the
+/// end.
+fn skip_piece<R: Read>(most: usize, reader: &mut R) -> io::Result<usize>
+    requires { 0 < most }
+    ensures bound { IfOk result (λ n. n ≤ most) }
+    ensures skips { IfOk result
+        (λ n. SkipsSome n (R.remaining reader.old) (R.remaining reader.new)) }
+{
+    let mut piece = [0u8; 4096];
+    let room = most.min(piece.len());
+    let read = reader.read(&mut piece[..room])?;
+    Ok(read)
 }

@@ -1,34 +1,118 @@
 //! The lines of a header.
-ghost use Rattle.std.specs.Prelude.{◌≡◌, ◌≤◌, ℕ, All, IfNone, IfSome, codes};
-ghost use Rattle.std.specs.Str.{bytes_eq};
-ghost use Rattle.message_stream.specs.Header.{AreDigits, IsLengthField, NamesNoLength, number};
+ghost use Rattle.std.specs.Prelude.{◌≡◌, ◌+◌, ◌≤◌, length};
+ghost use Rattle.std.specs.List.{list_all, prefix_len, suffix_len};
+ghost use Rattle.message_stream.specs.Field.{AreDigits, are_digits, ends_header, is_digit, is_length_name, isnt_brace, isnt_colon, length_in, number, number_of, own_name, trimmed};
 
-/// What stands before the number in the field that names a length.
-const NAME: &[u8] = b"Content-Length: ";
+/// The name of the field that names a length, in any case.
+const NAME: &[u8] = b"content-length";
 
-/// What ends a line of a header.
+/// What ends a line.
 const END: &[u8] = b"\r\n";
+
+/// What ends a line too.
+const FEED: &[u8] = b"\n";
 
 /// The greatest length that is told from greater ones.
 pub const MOST: usize = 1 << 40;
 
 /// Whether a line is the last one of a header.
 pub(crate) fn is_last(line: &[u8]) -> bool
-    ensures { result ≡ bytes_eq line.now (codes "\r\n") }
+    ensures { result ≡ ends_header line.now }
 {
-    line == END
+    line == END || line == FEED
 }
 
 /// Returns the length that a line of a header names, at most `MOST`.
 pub(crate) fn length_in(line: &[u8]) -> Option<usize>
-    ensures some { IfSome result (IsLengthField line.now) }
-    ensures none { IfNone result (NamesNoLength line.now) }
+    ensures { result ≡ length_in line.now }
 {
-    let digits = line.strip_prefix(NAME)?.strip_suffix(END)?;
-    if digits.is_empty() || !digits.iter().all(u8::is_ascii_digit) {
-        return None;
+    let colon = colon_in(line);
+    let (name, _) = line.split_at(colon);
+    let (_, value) = line.split_at((colon + 1).min(line.len()));
+    if names_length(name) {
+        number_in(value)
+    } else {
+        None
     }
-    Some(number(digits))
+}
+
+/// Returns where the first colon of a line is, or its end.
+fn colon_in(line: &[u8]) -> usize
+    ensures is { result ≡ prefix_len isnt_colon line.now }
+    ensures bound { result ≤ length line.now }
+{
+    let mut at = 0;
+    'bytes: while at < line.len() && line[at] != b':' {
+        at += 1;
+    }
+    at
+}
+
+/// Whether a field has the name of that which names a length. The end of a body may stand before it.
+fn names_length(name: &[u8]) -> bool
+    ensures { result ≡ is_length_name (own_name name.now) }
+{
+    let (_, own) = name.split_at(after_brace(name));
+    own.eq_ignore_ascii_case(NAME)
+}
+
+/// Returns where the text after the last closing brace begins.
+fn after_brace(name: &[u8]) -> usize
+    ensures is { result + suffix_len isnt_brace name.now ≡ length name.now }
+    ensures bound { result ≤ length name.now }
+{
+    let mut start = name.len();
+    'bytes: while start > 0 && name[start - 1] != b'}' {
+        start -= 1;
+    }
+    start
+}
+
+/// Returns the number that the value of a field is.
+#[tactic(auto, using(crate::proofs::Fields::digits_are))]
+fn number_in(value: &[u8]) -> Option<usize>
+    ensures { result ≡ number_of (trimmed value.now) }
+{
+    let digits = trimmed(value);
+    if are_digits(digits) {
+        Some(number(digits))
+    } else {
+        None
+    }
+}
+
+/// Whether these are digits, one or more.
+#[tactic(auto, using(crate::proofs::Fields::are_if, crate::proofs::Fields::none_if))]
+fn are_digits(digits: &[u8]) -> bool
+    ensures { result ≡ are_digits digits.now }
+{
+    if digits.is_empty() {
+        false
+    } else {
+        all_digits(digits)
+    }
+}
+
+/// Whether all of these are digits.
+fn all_digits(digits: &[u8]) -> bool
+    ensures { result ≡ list_all is_digit digits.now }
+{
+    digits.iter().all(|digit| is_digit(digit))
+}
+
+/// Whether a byte is a digit.
+fn is_digit(byte: &u8) -> bool
+    ensures { result ≡ is_digit byte.now }
+{
+    let byte = *byte;
+    48 <= byte && byte <= 57
+}
+
+/// Returns a value without the blanks before it and after it.
+fn trimmed(value: &[u8]) -> &[u8]
+    ensures { result.now ≡ trimmed value.now }
+{
+    value.trim_ascii()
 }
 
 /// Returns the number that digits write, or `MOST` in place of a greater one.

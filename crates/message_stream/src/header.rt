@@ -1,14 +1,14 @@
 //! The headers of messages.
-ghost use Rattle.std.specs.Prelude.{◌≡◌, ◌⊎◌, IfOk, IfSome, Some};
-ghost use Rattle.std.specs.Io.KnownBytes.{Consumes};
-ghost use Rattle.message_stream.specs.Header.{IsLengthField, ReadsHeader, length_of};
+ghost use Rattle.std.specs.Prelude.{◌≡◌, IfOk};
+ghost use Rattle.message_stream.specs.Field.{length_in};
+ghost use Rattle.message_stream.specs.Header.{IsEnded, ReadsHeader, ReadsLine, later};
 
 use crate::field::{is_last, length_in};
 use std::alloc::Global;
 use std::io::{self, BufRead};
 
 /// How many lines a header has at most.
-const MOST_LINES: usize = 64;
+pub const MOST_LINES: usize = 64;
 
 /// What was read where a header is due.
 pub(crate) enum Header {
@@ -25,19 +25,23 @@ pub(crate) enum Header {
 /// # Errors
 ///
 /// Reading failed, or memory ran out.
+#[tactic(auto, using(crate::proofs::Headers::is_none, crate::proofs::Headers::passed_most, crate::proofs::Headers::passed_none, crate::proofs::Headers::passed_to_end))]
 pub(crate) fn read_header<R: BufRead>(alloc: Global, reader: &mut R) -> io::Result<Header>
     ensures { IfOk result (ReadsHeader (R.remaining reader.old) (R.remaining reader.new)) }
 {
     let mut length = None;
-    'lines: for _ in 0..MOST_LINES {
-        let line = read_line(alloc, reader)?;
+    let mut count = 0;
+    'lines: while count < MOST_LINES {
+        let read = read_line(alloc, reader)?;
+        let line = read.as_slice();
         if line.is_empty() {
             return Ok(Header::End);
         }
-        if is_last(&line) {
+        if is_last(line) {
             return Ok(ended(length));
         }
-        length = latest(length, &line);
+        length = latest(length, line);
+        count += 1;
     }
     Ok(Header::Wrong)
 }
@@ -45,7 +49,7 @@ pub(crate) fn read_header<R: BufRead>(alloc: Global, reader: &mut R) -> io::Resu
 /// Reads the bytes up to the first line feed, with it, or up to the end of the input.
 fn read_line<R: BufRead>(alloc: Global, reader: &mut R) -> io::Result<Vec<u8>>
     ensures { IfOk result
-        (λ line. Consumes (R.remaining reader.old) (R.remaining reader.new) line.items) }
+        (λ line. ReadsLine (R.remaining reader.old) (R.remaining reader.new) line.items) }
 {
     let mut line = Vec::new(alloc);
     reader.read_until(b'\n', &mut line)?;
@@ -54,7 +58,7 @@ fn read_line<R: BufRead>(alloc: Global, reader: &mut R) -> io::Result<Vec<u8>>
 
 /// Returns the header of which the lines before the last one name the length.
 fn ended(length: Option<usize>) -> Header
-    ensures { length_of result ≡ length }
+    ensures { IsEnded length result }
 {
     match length {
         Some(count) => Header::Length(count),
@@ -64,7 +68,7 @@ fn ended(length: Option<usize>) -> Header
 
 /// Returns the length that the line names, or otherwise that which was found before.
 fn latest(found: Option<usize>, line: &[u8]) -> Option<usize>
-    ensures { IfSome result (λ count. IsLengthField line.now count ⊎ (found ≡ Some count)) }
+    ensures { result ≡ later found (length_in line.now) }
 {
     match length_in(line) {
         Some(count) => Some(count),

@@ -1,7 +1,7 @@
 //! Why texts are rejected, and where.
 
 use crate::answer::Answer;
-use justfile_token::{CompileError, CompileErrorKind, Fault, StringKind, StringLiteral};
+use justfile_token::{CompileError, CompileErrorKind, Fault, Name, StringKind, StringLiteral};
 use justfile_vocabulary::TokenKind;
 use std::alloc::{AllocError, Global};
 
@@ -18,16 +18,25 @@ pub fn place_after(text: &str, before: &str) -> (usize, usize) {
     (line, before.len() - start)
 }
 
+/// Returns the name of a kind of error with a name that it holds, and the offset of that.
+fn kind_with_name(
+    alloc: Global,
+    kind: &str,
+    field: &str,
+    name: &Name<'_>,
+) -> Result<String, AllocError> {
+    let at = name.token.offset;
+    format!(in alloc; "{kind} {{ {field}: {name}@{at} }}")
+}
+
 /// Returns the name of a kind of error with what it holds, a key with its offset.
 fn kind_with_key(alloc: Global, kind: &CompileErrorKind<'_>) -> Result<String, AllocError> {
     match kind {
         CompileErrorKind::ArgAttributeRequiresMultipleOrVariadic { key } => {
-            let at = key.token.offset;
-            format!(in alloc; "ArgAttributeRequiresMultipleOrVariadic {{ key: {key}@{at} }}")
+            kind_with_name(alloc, "ArgAttributeRequiresMultipleOrVariadic", "key", key)
         }
         CompileErrorKind::ArgAttributeRequiresOption { key } => {
-            let at = key.token.offset;
-            format!(in alloc; "ArgAttributeRequiresOption {{ key: {key}@{at} }}")
+            kind_with_name(alloc, "ArgAttributeRequiresOption", "key", key)
         }
         CompileErrorKind::ArgumentCountParse { key, source, value } => {
             let at = key.token.offset;
@@ -40,12 +49,10 @@ fn kind_with_key(alloc: Global, kind: &CompileErrorKind<'_>) -> Result<String, A
             format!(in alloc; "ArgumentCountValue {{ key: {key}@{at}, value: {value:?} }}")
         }
         CompileErrorKind::AttributeKeyMissingValue { key } => {
-            let at = key.token.offset;
-            format!(in alloc; "AttributeKeyMissingValue {{ key: {key}@{at} }}")
+            kind_with_name(alloc, "AttributeKeyMissingValue", "key", key)
         }
         CompileErrorKind::AttributeKeyTakesNoValue { key } => {
-            let at = key.token.offset;
-            format!(in alloc; "AttributeKeyTakesNoValue {{ key: {key}@{at} }}")
+            kind_with_name(alloc, "AttributeKeyTakesNoValue", "key", key)
         }
         kind => format!(in alloc; "{kind:?}"),
     }
@@ -101,8 +108,7 @@ pub fn kind_of(alloc: Global, kind: &CompileErrorKind<'_>) -> Result<String, All
             )
         }
         CompileErrorKind::AttributeArgumentExpression { attribute } => {
-            let at = attribute.token.offset;
-            format!(in alloc; "AttributeArgumentExpression {{ attribute: {attribute}@{at} }}")
+            kind_with_name(alloc, "AttributeArgumentExpression", "attribute", attribute)
         }
         CompileErrorKind::DuplicateAttribute { attribute, first } => {
             let at = attribute.token.offset;

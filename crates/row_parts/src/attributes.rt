@@ -8,10 +8,15 @@ use row_notation::{Answer, Text};
 /// Writes attributes, each in brackets and with a blank after it.
 pub fn put_attributes(attributes: &AttributeSet<'_>, shown: &mut Text) {
     for attribute in attributes.iter() {
-        shown.put("[");
-        shown.put_made(attribute.to_string(shown.alloc()));
-        shown.put("] ");
+        put_attribute(attribute, shown);
     }
+}
+
+/// Writes an attribute in brackets and with a blank after it.
+fn put_attribute(attribute: &Attribute<'_>, shown: &mut Text) {
+    shown.put("[");
+    shown.put_made(attribute.to_string(shown.alloc()));
+    shown.put("] ");
 }
 
 /// Writes attributes, each with the offset of its name and its comment, and returns whether there

@@ -20,6 +20,9 @@ pub fn push_joined<'src>(
     }
 }
 
+/// Attributes with their names and comments.
+type Entries<'src> = Vec<(Attribute<'src>, Name<'src>, Option<&'src str>)>;
+
 /// Makes a set from copies of a set's attributes in reverse order, with another comment, followed
 /// by copies with this name and comment.
 fn joined<'src>(
@@ -29,10 +32,55 @@ fn joined<'src>(
     comment: Option<&'src str>,
 ) -> Result<AttributeSet<'src>, AllocError> {
     let mut entries = Vec::new(alloc);
-    put_entries(&mut entries, copies(set, alloc)?, None, Some("# earlier"))?;
+    match put_joined(set, &mut entries, alloc, name, comment) {
+        Ok(()) => AttributeSet::from_entries(alloc, entries),
+        Err(error) => Err(error),
+    }
+}
+
+/// Appends the entries that `joined` makes a set of.
+fn put_joined<'src>(
+    set: &AttributeSet<'src>,
+    entries: &mut Entries<'src>,
+    alloc: Global,
+    name: Name<'src>,
+    comment: Option<&'src str>,
+) -> Result<(), AllocError> {
+    put_entries(set, entries, alloc, None, Some("# earlier"))?;
     entries.reverse();
-    put_entries(&mut entries, copies(set, alloc)?, Some(name), comment)?;
-    AttributeSet::from_entries(alloc, entries)
+    put_entries(set, entries, alloc, Some(name), comment)
+}
+
+/// Appends an entry for a copy of each attribute of a set, with this name or else its own, and with
+/// this comment.
+fn put_entries<'src>(
+    set: &AttributeSet<'src>,
+    entries: &mut Entries<'src>,
+    alloc: Global,
+    name: Option<Name<'src>>,
+    comment: Option<&'src str>,
+) -> Result<(), AllocError> {
+    match set.clone(alloc) {
+        Ok(copy) => put_each(copy.into_items(), entries, name, comment),
+        Err(error) => Err(error),
+    }
+}
+
+/// Appends an entry for the first of each pair, with this name or else its own, and with this
+/// comment.
+fn put_each<'src, K: Drop>(
+    pairs: IntoNamed<'src, K>,
+    entries: &mut Vec<(K, Name<'src>, Option<&'src str>)>,
+    name: Option<Name<'src>>,
+    comment: Option<&'src str>,
+) -> Result<(), AllocError> {
+    for (key, own) in pairs {
+        let name = name.unwrap_or(own);
+        if entries.push((key, name, comment)).is_err() {
+            return Err(AllocError);
+        }
+    }
+    Ok(())
 }
 
 /// Makes a set from the attributes of two sets and their names, without comments.
@@ -42,46 +90,42 @@ fn named<'src>(
     alloc: Global,
 ) -> Result<AttributeSet<'src>, AllocError> {
     let mut pairs = Vec::new(alloc);
-    put_pairs(&mut pairs, copies(earlier, alloc)?)?;
-    put_pairs(&mut pairs, copies(later, alloc)?)?;
-    AttributeSet::from_pairs(alloc, pairs)
+    match put_both(earlier, later, &mut pairs, alloc) {
+        Ok(()) => AttributeSet::from_pairs(alloc, pairs),
+        Err(error) => Err(error),
+    }
 }
 
-/// Returns copies of a set's attributes with their names.
-fn copies<'src>(
-    set: &AttributeSet<'src>,
+/// Appends copies of the attributes of two sets with their names.
+fn put_both<'src>(
+    earlier: &AttributeSet<'src>,
+    later: &AttributeSet<'src>,
+    pairs: &mut Vec<(Attribute<'src>, Name<'src>)>,
     alloc: Global,
-) -> Result<IntoNamed<'src, Attribute<'src>>, AllocError> {
+) -> Result<(), AllocError> {
+    put_named(earlier, pairs, alloc)?;
+    put_named(later, pairs, alloc)
+}
+
+/// Appends copies of a set's attributes with their names.
+fn put_named<'src>(
+    set: &AttributeSet<'src>,
+    pairs: &mut Vec<(Attribute<'src>, Name<'src>)>,
+    alloc: Global,
+) -> Result<(), AllocError> {
     match set.clone(alloc) {
-        Ok(copy) => Ok(copy.into_items()),
+        Ok(copy) => put_pairs(copy.into_items(), pairs),
         Err(error) => Err(error),
     }
 }
 
 /// Appends pairs to others.
 fn put_pairs<'src, K: Drop>(
-    pairs: &mut Vec<(K, Name<'src>)>,
     more: IntoNamed<'src, K>,
+    pairs: &mut Vec<(K, Name<'src>)>,
 ) -> Result<(), AllocError> {
     for pair in more {
         if pairs.push(pair).is_err() {
-            return Err(AllocError);
-        }
-    }
-    Ok(())
-}
-
-/// Appends an entry for the first of each pair, with this name or else its own, and with this
-/// comment.
-fn put_entries<'src, K: Drop>(
-    entries: &mut Vec<(K, Name<'src>, Option<&'src str>)>,
-    more: IntoNamed<'src, K>,
-    name: Option<Name<'src>>,
-    comment: Option<&'src str>,
-) -> Result<(), AllocError> {
-    for (key, own) in more {
-        let name = name.unwrap_or(own);
-        if entries.push((key, name, comment)).is_err() {
             return Err(AllocError);
         }
     }
@@ -168,12 +212,21 @@ fn push_named<'src>(
     name: Name<'src>,
 ) {
     match named(set, later, answer.alloc()) {
-        Ok(mut made) => {
-            answer.push_if("unnamed", *later != made);
-            push_unwanted(&mut made, answer, name);
-        }
+        Ok(mut made) => push_unnamed(later, &mut made, answer, name),
         Err(_) => answer.fail(),
     }
+}
+
+/// Writes `unnamed` if a set isn't equal to the one that was made with the name `name`, and what is
+/// wrong with what that one has beside its attributes.
+fn push_unnamed<'src>(
+    later: &AttributeSet<'src>,
+    made: &mut AttributeSet<'src>,
+    answer: &mut Answer,
+    name: Name<'src>,
+) {
+    answer.push_if("unnamed", *later != *made);
+    push_unwanted(made, answer, name);
 }
 
 /// Writes `earlier` for each attribute of a set that has another name than `name`, and `commented`

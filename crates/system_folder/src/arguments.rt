@@ -13,7 +13,8 @@ const MOST_DOUBLINGS: u32 = 16;
 /// The arguments after the program's name.
 #[derive(Drop)]
 pub struct Arguments {
-    /// Each argument. In one that isn't UTF-8, `\u{fffd}` stands for what isn't.
+    /// Each argument. In one that isn't UTF-8, `\u{fffd}` stands for what isn't, and stands at its
+    /// end as often as another argument is the same text.
     pub words: Vec<String>,
     /// Those of the words that stand for an argument that isn't UTF-8.
     pub garbled: Vec<String>,
@@ -31,13 +32,37 @@ pub fn read_arguments(rt: &HostRuntime) -> io::Result<Arguments> {
         let Some(bytes) = argument_bytes(rt, index)? else {
             break;
         };
-        let word = String::from_utf8_lossy(rt.alloc(), &bytes)?;
+        let mut word = String::from_utf8_lossy(rt.alloc(), &bytes)?;
         if str::from_utf8(&bytes).is_err() {
+            make_distinct(rt, &mut word)?;
             garbled.push(word.clone()?)?;
         }
         words.push(word)?;
     }
     Ok(Arguments { words, garbled })
+}
+
+/// Makes a word another one than each argument is.
+fn make_distinct(rt: &HostRuntime, word: &mut String) -> io::Result<()> {
+    for _ in 0..usize::MAX {
+        if !is_argument(rt, word.as_str())? {
+            break;
+        }
+        word.push('\u{fffd}')?;
+    }
+    Ok(())
+}
+
+/// Whether a word is an argument.
+fn is_argument(rt: &HostRuntime, word: &str) -> io::Result<bool> {
+    for index in 1..usize::MAX {
+        match argument_bytes(rt, index)? {
+            Some(bytes) if bytes.as_slice() == word.as_bytes() => return Ok(true),
+            Some(_) => {}
+            None => break,
+        }
+    }
+    Ok(false)
 }
 
 /// Returns the bytes of the argument with this number.

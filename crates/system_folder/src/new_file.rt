@@ -1,7 +1,7 @@
 //! New files beside others.
 
+use crate::held_folder::{HeldFolder, Place};
 use justfile_files::folder::ReplaceError;
-use std::alloc::Global;
 use std::fs::{self, OpenOptions};
 use std::io::ErrorKind;
 use std::os::unix::fs::OpenOptionsExt;
@@ -9,26 +9,39 @@ use std::os::unix::fs::OpenOptionsExt;
 /// How many names for a new file are tried at most.
 const MOST_NAMES: u32 = 100;
 
-/// Creates a file beside another, which only its owner may read. Returns it with its path: that of
-/// the other with a number and an ending. Nothing that has such a name already is opened.
+/// Creates a file in a folder, which only its owner may read. Returns it with its place: this name
+/// with a number and an ending. Nothing that has such a name already is opened.
 pub(crate) fn create_beside(
     rt: &HostRuntime,
-    alloc: Global,
-    path: &str,
+    folder: &HeldFolder,
+    name: &str,
     ending: &str,
-) -> Result<(fs::File, String), ReplaceError> {
+) -> Result<(fs::File, Place), ReplaceError> {
     for number in 0..MOST_NAMES {
-        let beside = format!(in alloc; "{path}.{number}.{ending}")?;
+        let beside = format!(in rt.alloc(); "{name}.{number}.{ending}")?;
+        let place = folder.place(rt.alloc(), beside.as_str())?;
         let mut options = OpenOptions::new();
         options.write(true).create_new(true).mode(0o600);
-        match options.open(rt, beside.as_str()) {
-            Ok(file) => return Ok((file, beside)),
+        match options.open(rt, place.path.as_str()) {
+            Ok(file) => return Ok((file, place)),
             Err(error) if error.kind() == ErrorKind::AlreadyExists => {}
             Err(error) => return Err(ReplaceError::System(error)),
         }
     }
     let last = MOST_NAMES - 1;
-    Err(ReplaceError::Other(format!(in alloc;
-        "can't be replaced: {path}.0.{ending} to {path}.{last}.{ending} are in the way"
+    let shown = folder.place(rt.alloc(), name)?.shown;
+    Err(ReplaceError::Other(format!(in rt.alloc();
+        "can't be replaced: {shown}.0.{ending} to {shown}.{last}.{ending} are in the way"
     )?))
+}
+
+/// Removes a file that was made here. If it can't be removed, its path is noted.
+pub(crate) fn remove_made(rt: &HostRuntime, made: Place, leftovers: &mut Vec<String>) {
+    match fs::remove_file(rt, made.path.as_str()) {
+        Ok(()) => {}
+        Err(error) if error.kind() == ErrorKind::NotFound => {}
+        Err(_) => {
+            let _ = leftovers.push(made.shown);
+        }
+    }
 }

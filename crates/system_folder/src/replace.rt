@@ -1,46 +1,53 @@
 //! Replacing a file by a new one, where nothing is lost by that, and otherwise writing it in place.
 
+use crate::held_folder::{HeldFolder, Place, name_of};
 use crate::in_place::write_in_place;
-use crate::new_file::create_beside;
+use crate::new_file::{create_beside, remove_made};
 use crate::opened::Opened;
 use justfile_files::folder::ReplaceError;
-use std::alloc::Global;
 use std::fs::{self, Files, Metadata, OpenFile, OpenOptions};
 use std::io::{self, Error, ErrorKind, Write};
 use std::os::unix::fs::MetadataExt;
 
-/// Replaces the text of the file that a name leads to.
+/// Replaces the text of the file that a name leads to. What was made beside it and can't be removed
+/// is noted.
 pub(crate) fn replace_file(
     rt: &HostRuntime,
-    alloc: Global,
     name: &str,
     source: &str,
     text: &str,
+    leftovers: &mut Vec<String>,
 ) -> Result<(), ReplaceError> {
-    let target = target_of(rt, alloc, name)?;
-    let path = target.as_str();
-    let file = open_plain(rt, path)?;
+    let target = target_of(rt, name)?;
+    let folder = HeldFolder::of(rt, target.as_str())?;
+    let name = name_of(target.as_str());
+    let place = folder.place(rt.alloc(), name)?;
+    let file = open_plain(rt, place.path.as_str())?;
+    let seen = file.metadata()?;
     let opened = Opened {
-        path,
+        folder: &folder,
+        name,
+        place: &place,
         file: &file,
         source,
+        seen: &seen,
     };
     opened.check_unchanged(rt)?;
-    if replace_whole(rt, alloc, opened, text)? {
+    if replace_whole(rt, opened, text, leftovers)? {
         return Ok(());
     }
-    write_in_place(rt, alloc, opened, text)
+    write_in_place(rt, opened, text, leftovers)
 }
 
 /// Returns the path that a link leads to, or the name itself if it is none.
-fn target_of(rt: &HostRuntime, alloc: Global, name: &str) -> io::Result<String> {
+fn target_of(rt: &HostRuntime, name: &str) -> io::Result<String> {
     if fs::symlink_metadata(rt, name)?.is_symlink() {
         // a file whose path can't be told is written in place
         if let Ok(path) = fs::canonicalize(rt, name) {
             return Ok(path.into_string());
         }
     }
-    Ok(name.to_string(alloc)?)
+    Ok(name.to_string(rt.alloc())?)
 }
 
 /// Opens a plain file to read and to write it.
@@ -64,21 +71,20 @@ fn check_plain(metadata: &Metadata) -> io::Result<()> {
 /// would be lost by it, or where only the file itself may be written.
 fn replace_whole(
     rt: &HostRuntime,
-    alloc: Global,
     opened: Opened<'_>,
     text: &str,
+    leftovers: &mut Vec<String>,
 ) -> Result<bool, ReplaceError> {
-    let old = opened.file.metadata()?;
-    if !may_be_replaced(rt, opened.path, &old)? {
+    if !may_be_replaced(rt, opened)? {
         return Ok(false);
     }
-    let (mut new, beside) = match create_beside(rt, alloc, opened.path, "new") {
+    let (mut new, beside) = match create_beside(rt, opened.folder, opened.name, "new") {
         Ok(made) => made,
         Err(error) => return unless_barred(error),
     };
-    let replaced = put_in_place(rt, &mut new, beside.as_str(), opened, &old, text);
+    let replaced = put_in_place(rt, &mut new, &beside, opened, text);
     if !matches!(&replaced, Ok(true)) {
-        let _ = fs::remove_file(rt, beside.as_str());
+        remove_made(rt, beside, leftovers);
     }
     match replaced {
         Err(error) => unless_barred(error),
@@ -89,11 +95,12 @@ fn replace_whole(
 /// Whether nothing that is seen would be lost by replacing a file: it has one link, its path isn't
 /// a link, and its group may do what all others may. Otherwise there can be an access list, whose
 /// mask is in the place of the group's permissions.
-fn may_be_replaced(rt: &HostRuntime, path: &str, old: &Metadata) -> io::Result<bool> {
-    if fs::symlink_metadata(rt, path)?.is_symlink() || old.nlink() != 1 {
+fn may_be_replaced(rt: &HostRuntime, opened: Opened<'_>) -> io::Result<bool> {
+    let path = opened.place.path.as_str();
+    if fs::symlink_metadata(rt, path)?.is_symlink() || opened.seen.nlink() != 1 {
         return Ok(false);
     }
-    let mode = old.mode();
+    let mode = opened.seen.mode();
     Ok((mode >> 3) & 0o7 == mode & 0o7)
 }
 
@@ -102,24 +109,23 @@ fn may_be_replaced(rt: &HostRuntime, path: &str, old: &Metadata) -> io::Result<b
 fn put_in_place(
     rt: &HostRuntime,
     new: &mut fs::File,
-    beside: &str,
+    beside: &Place,
     opened: Opened<'_>,
-    old: &Metadata,
     text: &str,
 ) -> Result<bool, ReplaceError> {
     let made = new.metadata()?;
-    if made.uid() != old.uid() || made.gid() != old.gid() {
+    if made.uid() != opened.seen.uid() || made.gid() != opened.seen.gid() {
         return Ok(false);
     }
-    write_new(new, old, text)?;
+    write_new(new, opened.seen, text)?;
     opened.check_unchanged(rt)?;
-    fs::rename(rt, beside, opened.path)?;
+    fs::rename(rt, beside.path.as_str(), opened.place.path.as_str())?;
     Ok(true)
 }
 
 /// Writes a new file with the mode of the old one, as far as the disk.
-fn write_new(new: &mut fs::File, old: &Metadata, text: &str) -> io::Result<()> {
-    new.set_permissions(old.permissions())?;
+fn write_new(new: &mut fs::File, seen: &Metadata, text: &str) -> io::Result<()> {
+    new.set_permissions(seen.permissions())?;
     new.write_all(text.as_bytes())?;
     new.sync_all()
 }

@@ -1,8 +1,31 @@
 //! The justfile that `just` finds.
 
-use std::alloc::Global;
-use std::io::{self, Error, ErrorKind};
-use std::{env, fs};
+use crate::held_folder::is_same_file;
+use std::alloc::AllocError;
+use std::{fs, io};
+
+/// Why no justfile was found.
+#[derive(Debug, Drop)]
+pub enum SearchError {
+    /// A folder can't be read, or memory ran out.
+    System(io::Error),
+    /// There is none in the current folder or above.
+    Missing,
+    /// A folder has two, with these paths.
+    Two(String, String),
+}
+
+impl From<io::Error> for SearchError {
+    fn from(error: io::Error) -> Self {
+        SearchError::System(error)
+    }
+}
+
+impl From<AllocError> for SearchError {
+    fn from(error: AllocError) -> Self {
+        SearchError::System(io::Error::from(error))
+    }
+}
 
 /// Returns the path of the justfile of the current folder, or else of the nearest folder above that
 /// has one: a file named `justfile` or `.justfile`, in any case.
@@ -10,38 +33,58 @@ use std::{env, fs};
 /// # Errors
 ///
 /// There is none, a folder has two, or can't be read.
-pub fn find_justfile(rt: &HostRuntime, alloc: Global) -> io::Result<String> {
-    let here = env::current_dir(rt)?;
-    let mut folder = String::new(alloc);
-    for _ in here.as_str().split('/') {
-        if let Some(name) = justfile_in(rt, alloc, folder.as_str())? {
-            folder.push_str(name.as_str())?;
-            return Ok(folder);
+pub fn find_justfile(rt: &HostRuntime) -> Result<String, SearchError> {
+    let mut folder = String::new(rt.alloc());
+    for _ in 0..usize::MAX {
+        if let Some(path) = justfile_in(rt, folder.as_str())? {
+            return Ok(path);
         }
-        folder.push_str("../")?;
+        let above = format!(in rt.alloc(); "{}../", folder.as_str())?;
+        if is_top(rt, folder.as_str(), above.as_str())? {
+            break;
+        }
+        folder = above;
     }
-    Err(Error::new(ErrorKind::NotFound, "no justfile found"))
+    Err(SearchError::Missing)
 }
 
-/// Returns the name of the justfile in a folder, whose path ends in a slash or is empty.
-fn justfile_in(rt: &HostRuntime, alloc: Global, folder: &str) -> io::Result<Option<String>> {
+/// Whether a folder is the one that is above all others: the one above it is itself.
+fn is_top(rt: &HostRuntime, folder: &str, above: &str) -> io::Result<bool> {
+    let here = if folder.is_empty() { "." } else { folder };
+    Ok(is_same_file(&fs::metadata(rt, here)?, &fs::metadata(rt, above)?))
+}
+
+/// Returns the path of the justfile in a folder, whose path ends in a slash or is empty.
+fn justfile_in(rt: &HostRuntime, folder: &str) -> Result<Option<String>, SearchError> {
     let path = if folder.is_empty() { "." } else { folder };
-    let mut found = None;
+    let mut found: Option<String> = None;
     for entry in fs::read_dir(rt, path)? {
         // a name that isn't UTF-8 is another one
         let Ok(entry) = entry else { continue };
         if !is_justfile(entry.file_name()) {
             continue;
         }
-        if found.is_some() {
-            return Err(Error::new(ErrorKind::InvalidInput, "two justfiles in a folder"));
+        let path = format!(in rt.alloc(); "{folder}{}", entry.file_name())?;
+        match found {
+            Some(other) => return Err(SearchError::Two(other, path)),
+            None => found = Some(path),
         }
-        found = Some(entry.file_name().to_string(alloc)?);
     }
     Ok(found)
 }
 
-/// Whether a file with this name is a justfile.
+/// Whether a file with this name is a justfile that `just` finds.
 fn is_justfile(name: &str) -> bool {
     name.eq_ignore_ascii_case("justfile") || name.eq_ignore_ascii_case(".justfile")
+}
+
+/// Whether a file with this name can be meant as a justfile.
+pub(crate) fn may_be_justfile(name: &str) -> bool {
+    if is_justfile(name) {
+        return true;
+    }
+    match name.rsplit_once('.') {
+        Some((_, ending)) => ending.eq_ignore_ascii_case("just"),
+        None => false,
+    }
 }

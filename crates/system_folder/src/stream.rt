@@ -2,7 +2,7 @@
 ghost use Rattle.std.specs.Prelude.{None};
 
 use justfile_files::folder::{Folder, ReplaceError};
-use std::alloc::Global;
+use std::alloc::{AllocError, Global};
 use std::io::{self, Read, Write};
 
 /// Standard input and standard output as a folder, each of whose files is read from the one and
@@ -44,6 +44,13 @@ impl Folder for Stream<'_> {
     // nothing is known of what the streams give and take
     ghost contents = { λ _ _. None };
 
+    ghost lists = { λ _ _ _. Unit {0} };
+
+    /// There is no folder among the streams.
+    fn files_in(&self, _alloc: Global, _name: &str) -> Result<Option<Vec<String>>, AllocError> {
+        Ok(None)
+    }
+
     fn read(&mut self, alloc: Global, _name: &str) -> io::Result<Vec<u8>> {
         let mut bytes = Vec::new(alloc);
         self.rt.stdin().read_to_end(&mut bytes)?;
@@ -53,13 +60,15 @@ impl Folder for Stream<'_> {
 
     fn replace(
         &mut self,
-        _alloc: Global,
+        alloc: Global,
         _name: &str,
         _source: &str,
         text: &str,
     ) -> Result<(), ReplaceError> {
         self.bytes.clear();
-        write_bytes(self.rt, text.as_bytes())?;
-        Ok(())
+        match write_bytes(self.rt, text.as_bytes()) {
+            Ok(()) => Ok(()),
+            Err(error) => Err(ReplaceError::Other(format!(in alloc; "can't be written: {error}")?)),
+        }
     }
 }

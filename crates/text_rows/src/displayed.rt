@@ -238,8 +238,15 @@ fn push_apart(answer: &mut Answer, literal: &StringLiteral<'_>, copy: &StringLit
 pub(crate) fn excerpt(answer: &mut Answer, fields: &[String]) {
     match Lexer::lex(answer.alloc(), "justfile", field_at(fields, 1)) {
         Ok(tokens) => push_excerpt_in(answer, field_at(fields, 0), &tokens),
-        Err(Fault::Compile(error)) => push_excerpt(answer, error.context()),
-        Err(_) => answer.fail(),
+        Err(fault) => push_excerpt_of(answer, &fault),
+    }
+}
+
+/// Writes the excerpt of the token of an error.
+fn push_excerpt_of(answer: &mut Answer, fault: &Fault<'_>) {
+    match fault {
+        Fault::Compile(error) => push_excerpt(answer, error.context()),
+        _ => answer.fail(),
     }
 }
 

@@ -15,45 +15,98 @@ use row_notation::{Answer, RowWord, field_at, is_number};
 /// What a row does.
 #[derive(Clone, Copy, PartialEq, Eq)]
 pub(crate) enum Word {
+    /// Characters: these as alternatives, without and with backticks.
     Alternatives,
+    /// The number that is found, the least, and the most or `any`: the message of a wrong number of
+    /// arguments.
     ArgumentCounts,
+    /// Text: the kind of attributes with this name: as a value, its name, `enabler` if it limits an
+    /// item to a system, `keys` if it takes arguments by key; or `none`.
     AttributeKind,
+    /// T: where the text is cut at its items: the offsets from which and up to which each chunk is.
     Chunks,
+    /// Names: the message of a circle of recipes with these names.
     Circle,
+    /// Byte, a number: the byte's class.
     Class,
+    /// Numbers of constants.
     Constants,
+    /// Text: the text with its escapes replaced; or the error, at a token with offset 5 and length
+    /// 2.
     Cooks,
+    /// Number: this number of dogs and of feet, and the noun alone.
     Count,
+    /// What each displays, and what it belongs to.
     Delimiters,
+    /// One of the words in `messages.rt`: the message of this error (`unequal` or `equal` if it
+    /// compares wrongly).
     Error,
+    /// `first` or `last`, text: the excerpt of this token, or of the error's.
     Excerpt,
+    /// Faults of failed allocations.
     Faults,
+    /// The texts of format strings with four braces.
     FormatParts,
+    /// The first number, and the one after the last: of the characters with these numbers those
+    /// that an identifier may begin with, and those that it may continue with.
     Identifier,
+    /// Text: the indentation as it is written, or why it isn't one.
     Indentation,
+    /// What each displays, and what it belongs to.
     Interpolations,
+    /// What each displays, and what it belongs to.
     ItemKinds,
+    /// Text: the name of the keyword, and how it is written; or `none`.
     Keyword,
+    /// T: the delimiter of the literal that is the first token, and `tripled` or `single`; else the
+    /// error.
     KindOf,
+    /// T: the kinds of the tokens as messages name them.
     Kinds,
+    /// T: each token: its kind, with its lexeme in ‹› unless it is the usual one of its kind; of a
+    /// rejected text the kind of the error, and the kind, offset, line, column and length of its
+    /// token.
     Lexes,
+    /// What each displays, and what it belongs to.
     ListFeatures,
+    /// Mark, part: how a literal with them is displayed.
     Marks,
+    /// Names: the path, and its parts (`apart`, `unjoined`, `lost`, `changed`).
     Modulepath,
+    /// Names: the path, and its parts (`apart`, `unjoined`, `lost`, `changed`).
     Namepath,
+    /// Text: of the literal that a text begins with: its delimiter, `tripled` or `single`, the
+    /// delimiter's text, the kind of its token, the error if it does not end, and `escapes` if it
+    /// has some; or `none`.
     Opens,
+    /// What each displays, and what it belongs to.
     Operators,
+    /// Padding, text: each name with the padding (`unfound` by its key).
     Padded,
+    /// Text: the signal with this name, as a value, and how it is written; or `none`.
     Signal,
+    /// T: the kinds of the tokens that the parser sees, with `glued` after one that directly
+    /// follows another.
     Significant,
+    /// `long` or `short`, name: how the option is written on a command line; of a `short` one the
+    /// first character of the name counts.
     Switch,
+    /// T: `tokens: ` and their number, or `rejected at offset ` and the offset of the error's
+    /// token.
     TokenCount,
+    /// Reason: the message of a text that can't be expanded for it.
     Unexpanded,
+    /// Text: the text without the blanks that its lines share.
     Unindents,
+    /// Names: the message of a dependency on a recipe with this path that isn't known.
     Unknown,
+    /// Kinds of tokens, which ignore a padding.
     Unpadded,
+    /// Text: the message of a word in place of `true` or `false`.
     Untrue,
+    /// Text: the version as it is written, and its three numbers; or why it isn't one.
     Version,
+    /// Two versions: `<`, `=` or `>`.
     VersionOrder,
 }
 

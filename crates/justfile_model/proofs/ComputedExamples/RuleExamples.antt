@@ -1,5 +1,5 @@
 -- Examples of the rules that attributes break, computed from the definitions: each rule once, with the token at which it is reported.
-use Rattle.std.proofs.Common.{◌≡◌, ℕ, false, List, [], ◌∷◌, Option, Some, None, Err, codes, refl}
+use Rattle.std.proofs.Common.{◌≡◌, ℕ, false, List, [], ◌∷◌, ◌++◌, Option, Some, None, Err, codes, refl}
 use Rattle.std.specs.Str.{chars}
 use Rattle.justfile_token.specs.StringKind.{kind_of}
 use Rattle.justfile_vocabulary.specs.AttributeKind.{kind_named}
@@ -302,6 +302,21 @@ short_twice = refl
 long_and_short : construct_broken current sees (arg (codes "'a'") (bare (codes "long") ∷ []) ∷ arg (codes "'b'") (keyed (codes "short") (codes "'a'") ∷ []) ∷ []) a_and_b ≡ []
 unfolding kind_named same_attribute chars
 long_and_short = refl
+
+-- Options are checked attribute by attribute, so the short one that is repeated first comes before a long one.
+options_in_order : construct_broken current sees (arg (codes "'a'") (keyed (codes "short") (codes "'x'") ∷ []) ∷ arg (codes "'b'") (keyed (codes "short") (codes "'''x'''") ∷ [])
+    ∷ arg (codes "'c'") (keyed (codes "long") (codes "'l'") ∷ []) ∷ arg (codes "'d'") (keyed (codes "long") (codes "'''l'''") ∷ []) ∷ [])
+    (recipe_of (parameter Singular (codes "a") ∷ parameter Singular (codes "b") ∷ parameter Singular (codes "c") ∷ parameter Singular (codes "d") ∷ []))
+    ≡ one (rule.DuplicateShortOption 120 (codes "foo")) (codes "'''x'''") ++ one (rule.DuplicateLongOption (codes "l") (codes "foo")) (codes "'''l'''")
+unfolding kind_named same_attribute unindented chars
+options_in_order = refl
+
+-- of one attribute the long option is checked before the short one
+long_option_first : construct_broken current sees (arg (codes "'a'") (keyed (codes "long") (codes "'l'") ∷ keyed (codes "short") (codes "'x'") ∷ [])
+    ∷ arg (codes "'b'") (keyed (codes "short") (codes "'''x'''") ∷ keyed (codes "long") (codes "'''l'''") ∷ []) ∷ []) a_and_b
+    ≡ one (rule.DuplicateLongOption (codes "l") (codes "foo")) (codes "'''l'''") ++ one (rule.DuplicateShortOption 120 (codes "foo")) (codes "'''x'''")
+unfolding kind_named same_attribute unindented chars
+long_option_first = refl
 
 -- a flag is on already if its parameter has a value by default
 flag_with_default : construct_broken current sees (arg (codes "'a'") (bare (codes "long") ∷ bare (codes "flag") ∷ []) ∷ []) (recipe_of (optional (codes "a") (codes "'x'") ∷ []))

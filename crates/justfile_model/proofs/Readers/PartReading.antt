@@ -3,7 +3,9 @@ use Rattle.std.proofs.Common.{◌≡◌, ℕ, Bool, true, false, cond, List, [],
 use Rattle.justfile_vocabulary.specs.Keyword.{keyword_named}
 use Rattle.justfile_vocabulary.specs.declared.keyword.Keyword.{Keyword}
 use Rattle.justfile_vocabulary.specs.declared.token_kind.TokenKind.TheVariants as kinds
+use Rattle.justfile_model.specs.declared.level.Level.TheVariants as levels
 use Rattle.justfile_model.specs.Readers.ExpressionReader as expressions
+use Rattle.justfile_model.specs.Readers.ExpressionReader.{is_within}
 use Rattle.justfile_model.specs.Readers.HeaderReader.{next_binding_number, expression, obeying}
 use Rattle.justfile_model.specs.LiteralTexts.Literals.{string_of}
 use Rattle.justfile_model.specs.Readers.PartReader as r
@@ -129,7 +131,7 @@ module _ {R T A B S : Type 0} (leaves : Leaves R T A B S) where
       (λ operator. then operator.1 (expect leaves kinds.Identifier operator.1) _ (keeps operator.1 _ (expects leaves kinds.Identifier operator.1)) truth_of_keeps)
 
   some_command_keeps : (from : State R T B) (es : Exprs A B) (s : State R T B) → Keeps s (r.some_command leaves from (es, s))
-  some_command_keeps from tree.none s = tt
+  some_command_keeps from tree.none s = after_test (is_within (leaves.conditions from.run).limit levels.Expression from) _ _ (Keeps s) (λ _. tt) (λ _. tt)
   some_command_keeps from (tree.more e es) s = there s
 
   pub interpreter_goes : (s : State R T B) → Goes s (r.interpreter leaves s)

@@ -13,14 +13,14 @@ use Rattle.justfile_model.specs.Meanings.AttributeKinds.{same_attribute}
 use Rattle.justfile_model.specs.Trees.ContentKeys.{has_attribute}
 use Rattle.justfile_model.specs.Grammars.Features.{bound_place, noted_at, rules_features}
 use Rattle.justfile_model.specs.Meanings.Meaning.{first_of}
-use Rattle.justfile_model.specs.Meanings.RecipeRules.{Placed, bound_key, exclusions_broken, first_character, is_parameter, is_variadic, long_options, misplaced_broken, option_of, options_broken, or_else, parameter_broken, repeated_broken, ruled_broken, rules_for, second_broken, short_options, stars, undefined_broken, with_text}
+use Rattle.justfile_model.specs.Meanings.RecipeRules.{Placed, and_named, bound_key, exclusions_broken, first_character, if_named, is_parameter, is_variadic, long_option, misplaced_broken, option_of, options_after, options_broken, or_else, parameter_broken, repeated_broken, ruled_broken, rules_for, second_broken, short_option, stars, undefined_broken, with_text}
 use Rattle.justfile_model.specs.Meanings.Rules.{Rule, broken_if}
 use Rattle.justfile_model.specs.Trees.LeafView.{LeafView}
 use Rattle.justfile_model.specs.Trees.Tree.{ArgumentRules, Bound, DependencyArgument, Entry, OptionName, Parameter, Quoted}
 use Rattle.justfile_model.proofs.Relations.AlikeAttributes.{AlikeArgumentRules, AlikeBound, AlikeEntry, AlikeOptionName, AlikeQuoted, SeesAlike, no_option, option_named, own_name, same_kind}
 use Rattle.justfile_model.proofs.Relations.AlikeRules as broken
 use Rattle.justfile_model.proofs.Relations.AlikeRules.{AlikeBroken, AlikeRule}
-use Rattle.justfile_model.proofs.Lists.EachLaws.{AlikeOption, absent, each_given, each_mapped, found_alike, kept_alike, least_alike, listed_alike, present, same_some}
+use Rattle.justfile_model.proofs.Lists.EachLaws.{AlikeOption, absent, each_given, found_alike, kept_alike, least_alike, listed_alike, present, same_some}
 use Rattle.justfile_model.proofs.Relations.NewAttributesAlike.{quoted_place, same_text_of}
 use Rattle.justfile_model.proofs.Relations.Related as a
 use Rattle.justfile_model.proofs.Relations.Related.{AlikeDependencyArgument, AlikeNoted, AlikeParameters, Each, Relations, each_both}
@@ -80,13 +80,16 @@ module _ {B B' : Type 0} (Position : B → B' → Type 0) where
   abbrev SamePlaced : {X : Type 0} → Placed X B → Placed X B' → Type 0
   SamePlaced p p' = (p.0 ≡ p'.0) × Position p.1 p'.1
 
-  repeated_alike : {X : Type 0} (same : X → X → Bool) (rule : X → Rule B) (rule' : X → Rule B') → ((x y : X) → x ≡ y → AlikeRule Position (rule x) (rule' y))
-      → {before before' : List X} {os : List (Placed X B)} {os' : List (Placed X B')} → before ≡ before' → Each SamePlaced os os'
-      → Each (AlikeBroken Position) (repeated_broken same rule before os) (repeated_broken same rule' before' os')
-  repeated_alike same rule rule' alike e a.nil = a.nil
-  repeated_alike same rule rule' alike {before = before} {before' = before'} e (a.cons {x = x} {y = y} h hs) =
-      each_both (broken_if_alike _ _ (λ i. list_any (same (h.0 i)) (e i)) (alike x.0 y.0 h.0) h.1)
-      (repeated_alike same rule rule' alike {before = before ++ x.0 ∷ []} {before' = before' ++ y.0 ∷ []} (λ i. e i ++ h.0 i ∷ []) hs)
+  module _ {X : Type 0} {before before' : List X} (e : before ≡ before') where
+    repeated_alike : (same : X → X → Bool) (rule : X → Rule B) (rule' : X → Rule B') → ((x y : X) → x ≡ y → AlikeRule Position (rule x) (rule' y))
+        → {o : Option (Placed X B)} {o' : Option (Placed X B')} → AlikeOption SamePlaced o o'
+        → Each (AlikeBroken Position) (repeated_broken same rule before o) (repeated_broken same rule' before' o')
+    repeated_alike same rule rule' alike absent = a.nil
+    repeated_alike same rule rule' alike (present {x = x} {y = y} h) = broken_if_alike _ _ (λ i. list_any (same (h.0 i)) (e i)) (alike x.0 y.0 h.0) h.1
+
+    named_alike : {o : Option (Placed X B)} {o' : Option (Placed X B')} → AlikeOption SamePlaced o o' → and_named before o ≡ and_named before' o'
+    named_alike absent = e
+    named_alike (present h) = λ i. e i ++ h.0 i ∷ []
 
 module _ {R T A B S D R' T' A' B' S' D' : Type 0} (rel : Relations R T A B S D R' T' A' B' S' D') where
   pub stars_alike : {X X' : Type 0} {Star : X → X' → Type 0} {ds : List (DependencyArgument A B X)} {ds' : List (DependencyArgument A' B' X')}
@@ -156,19 +159,32 @@ module _ {R T A B S D R' T' A' B' S' D' : Type 0} (rel : Relations R T A B S D R
           within None = absent
           within (Some c) = present (refl, h.1)
 
-      long_alike : {rs : List (ArgumentRules A B)} {rs' : List (ArgumentRules A' B')} → Each (AlikeArgumentRules rel) rs rs'
-          → Each (SamePlaced rel.position) (long_options view rs) (long_options view' rs')
-      long_alike h = each_mapped _ _ text_alike (each_given _ _ (λ r r' k. option_alike k.name k.long) h)
+      long_alike : {r : ArgumentRules A B} {r' : ArgumentRules A' B'} → AlikeArgumentRules rel r r'
+          → AlikeOption (SamePlaced rel.position) (long_option view r) (long_option view' r')
+      long_alike h = option_mapped _ _ text_alike (option_alike h.name h.long)
 
-      short_alike : {rs : List (ArgumentRules A B)} {rs' : List (ArgumentRules A' B')} → Each (AlikeArgumentRules rel) rs rs'
-          → Each (SamePlaced rel.position) (short_options view rs) (short_options view' rs')
-      short_alike h = each_given _ _ character_alike (each_mapped _ _ text_alike (each_given _ _ (λ r r' k. option_alike k.name k.short) h))
+      short_alike : {r : ArgumentRules A B} {r' : ArgumentRules A' B'} → AlikeArgumentRules rel r r'
+          → AlikeOption (SamePlaced rel.position) (short_option view r) (short_option view' r')
+      short_alike h = within (option_mapped _ _ text_alike (option_alike h.name h.short))
+        where
+          within : {o : Option (Placed (List ℕ) B)} {o' : Option (Placed (List ℕ) B')} → AlikeOption (SamePlaced rel.position) o o'
+              → AlikeOption (SamePlaced rel.position) (if_named (first_character view) o) (if_named (first_character view') o')
+          within absent = absent
+          within (present {x = x} {y = y} k) = character_alike x y k
+
+      options_alike_after : {n : B} {n' : B'} {longs longs' : List (List ℕ)} {shorts shorts' : List ℕ} {rs : List (ArgumentRules A B)} {rs' : List (ArgumentRules A' B')}
+          → rel.position n n' → longs ≡ longs' → shorts ≡ shorts' → Each (AlikeArgumentRules rel) rs rs'
+          → Each (AlikeBroken rel.position) (options_after view n longs shorts rs) (options_after view' n' longs' shorts' rs')
+      options_alike_after n e e2 a.nil = a.nil
+      options_alike_after {longs = longs} {longs' = longs'} {shorts = shorts} {shorts' = shorts'} n e e2 (a.cons {x = x} {y = y} h hs) =
+          each_both (repeated_alike rel.position e bytes_eq _ _ (λ x y e. broken.duplicate_long e n) (long_alike h))
+          (each_both (repeated_alike rel.position e2 nat_eq _ _ (λ x y e. broken.duplicate_short e n) (short_alike h))
+          (options_alike_after {longs = and_named longs (long_option view x)} {longs' = and_named longs' (long_option view' y)} {shorts = and_named shorts (short_option view x)} {shorts' = and_named shorts' (short_option view' y)}
+          n (named_alike rel.position e (long_alike h)) (named_alike rel.position e2 (short_alike h)) hs))
 
       pub options_alike : {n : B} {n' : B'} {rs : List (ArgumentRules A B)} {rs' : List (ArgumentRules A' B')} → rel.position n n'
           → Each (AlikeArgumentRules rel) rs rs' → Each (AlikeBroken rel.position) (options_broken view n rs) (options_broken view' n' rs')
-      options_alike n h =
-          each_both (repeated_alike rel.position bytes_eq _ _ (λ x y e. broken.duplicate_long e n) refl (long_alike h))
-          (repeated_alike rel.position nat_eq _ _ (λ x y e. broken.duplicate_short e n) refl (short_alike h))
+      options_alike n h = options_alike_after n refl refl h
 
       -- ---- parameters
 

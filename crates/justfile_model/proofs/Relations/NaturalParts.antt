@@ -8,6 +8,7 @@ use Rattle.justfile_vocabulary.specs.declared.keyword.Keyword.{Keyword}
 use Rattle.justfile_vocabulary.specs.declared.keyword.Keyword.TheVariants as words
 use Rattle.justfile_vocabulary.specs.declared.token_kind.TokenKind.{TokenKind}
 use Rattle.justfile_vocabulary.specs.declared.token_kind.TokenKind.TheVariants as kinds
+use Rattle.justfile_model.specs.declared.level.Level.TheVariants as levels
 use Rattle.justfile_model.specs.Meanings.AttributeRules.{of_some}
 use Rattle.justfile_model.specs.Grammars.Conditions.{VersionNumbers}
 use Rattle.justfile_model.specs.Readers.ExpressionReader as expressions
@@ -35,7 +36,7 @@ use Rattle.justfile_model.proofs.Relations.NewAttributesAlike.{quoted_place, sam
 use Rattle.justfile_model.proofs.Readers.PartReading.{names_is, numbered_name_goes}
 use Rattle.justfile_model.proofs.Readers.ReadingSteps.{accepts, past}
 use Rattle.justfile_model.proofs.Relations.Related as a
-use Rattle.justfile_model.proofs.Relations.Related.{Alike, AlikeAll, AlikeNames, AlikeValue, Each, Related, Relations, Respects, States, Takes, accepted, accepted_word, bind, bind_short, both, by_tests, cooked_alike, each_length, expected, neither, none_taken, pick, refused_alike, same_next, short, taken, unexpected, weaken}
+use Rattle.justfile_model.proofs.Relations.Related.{Alike, AlikeAll, AlikeNames, AlikeValue, Each, Related, Relations, Respects, States, Takes, accepted, accepted_word, bind, bind_short, both, by_tests, cooked_alike, each_length, entered, expected, neither, none_taken, pick, refused_alike, same_next, short, taken, unexpected, weaken}
 
 module _ {R T A B S D R' T' A' B' S' D' : Type 0} (rel : Relations R T A B S D R' T' A' B' S' D') (current : VersionNumbers) (view : LeafView A B)
     (view' : LeafView A' B') (sees : SeesAlike rel view view') where
@@ -203,7 +204,8 @@ module _ {R T A B S D R' T' A' B' S' D' : Type 0} (rel : Relations R T A B S D R
 
   command_natural : {first : State R T B} {first' : State R' T' B'} → States rel first first' → {es : Exprs A B} {es' : Exprs A' B'} {s : State R T B} {s' : State R' T' B'}
       → AlikeAll rel es es' → States rel s s' → Reads rel (AlikeValue rel) (r.some_command one first (es, s)) (r.some_command other first' (es', s'))
-  command_natural f a.none h = refused_alike rel one other agree f
+  command_natural {first} {first'} f a.none h =
+      entered rel f (refused_alike rel one other agree f) (one.conditions first.run) (other.conditions first'.run) levels.Expression (agree.conditions first.run first'.run f.run)
   command_natural f (a.more e es) h = both (a.interpreter e es) h
 
   interpreter_natural : {s : State R T B} {s' : State R' T' B'} → States rel s s' → Reads rel (AlikeValue rel) (r.interpreter one s) (r.interpreter other s')

@@ -5,9 +5,10 @@ use Rattle.justfile_vocabulary.specs.declared.keyword.Keyword.{Keyword}
 use Rattle.justfile_vocabulary.specs.declared.token_kind.TokenKind.{TokenKind}
 use Rattle.justfile_vocabulary.specs.declared.token_kind.TokenKind.TheVariants as kinds
 use Rattle.justfile_vocabulary.proofs.KeywordLaws.{spells}
+use Rattle.justfile_model.specs.declared.level.Level.TheVariants as levels
 use Rattle.justfile_model.specs.Grammars.Conditions.{Conditions}
 use Rattle.justfile_model.specs.Readers.ExpressionReader as expressions
-use Rattle.justfile_model.specs.Readers.ExpressionReader.{cooked}
+use Rattle.justfile_model.specs.Readers.ExpressionReader.{cooked, is_within}
 use Rattle.justfile_model.specs.Grammars.Expressions.{Tokens, IsKind, IsWord, NotNext, BelowLimit}
 use Rattle.justfile_model.specs.Grammars.Files.{quoted_literals, setting_literals}
 use Rattle.justfile_model.specs.Readers.HeaderReader.{next_binding_number, expression}
@@ -269,7 +270,8 @@ module _ (conditions : Conditions) where
   command_sound : (s : State) (operator opener : SignificantToken) (ts us : Tokens) → s.left ≡ operator ∷ ts → IsKind kinds.ColonEquals operator → ts ≡ opener ∷ us
       → IsKind kinds.BracketL opener → (es : Exprs Tok Tok) (rest : State) → DerivesAll conditions kinds.BracketR 0 (at s us) (es, rest)
       → IfOk (r.some_command token_leaves (at s us) (es, rest)) (IsValue InterpreterForm s)
-  command_sound s operator opener ts us split kind split2 kind2 tree.none rest h = tt
+  command_sound s operator opener ts us split kind split2 kind2 tree.none rest h =
+      after_test (is_within (token_leaves.conditions s.run).limit levels.Expression (at s us)) _ _ (λ (o : Read (SettingValue Tok Tok)). IfOk o (IsValue InterpreterForm s)) (λ _. tt) (λ _. tt)
   command_sound s operator opener ts us split kind split2 kind2 (tree.more first others) rest h =
       let R : Tokens → Type 0 = λ l. ValueOf itself itself (BelowLimit conditions.limit) InterpreterForm (tree.Interpreter first others) h.features l rest.left in
       record {

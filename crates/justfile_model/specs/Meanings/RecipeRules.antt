@@ -1,6 +1,6 @@
 -- The rules that a recipe breaks by its header and by the meaning of its attributes, each at a token. The rules that attributes break on
--- any item are in `AttributeRules`. All broken rules are listed; their order has no meaning.
-use Rattle.std.specs.Prelude.{ℕ, Bool, true, false, ◌&&◌, not, List, [], ◌∷◌, ◌++◌, map, Option, Some, None, nat_eq, if◌then◌else◌}
+-- any item are in `AttributeRules`. All broken rules are listed. Their order has no meaning but among options, where the first is reported.
+use Rattle.std.specs.Prelude.{ℕ, Bool, true, false, ◌&&◌, not, List, [], ◌∷◌, ◌++◌, Option, Some, None, nat_eq, if◌then◌else◌}
 use Rattle.std.specs.List.{filter, find, filter_map, flat_map, list_any}
 use Rattle.std.specs.Option.{is_some, option_map}
 use Rattle.std.specs.Str.{bytes_eq, chars}
@@ -31,12 +31,21 @@ or_else (Some x) second = Some x
 abbrev pub Placed : (X B : Type 0) → Type 0
 Placed X B = X × B
 
--- the options that have the same name as an earlier one
+-- a function of an option, if there is one
+abbrev pub if_named : {X Y : Type 0} → (X → Option Y) → Option X → Option Y
+if_named of None = None
+if_named of (Some option) = of option
+
+-- these names, and that of an option after them, if there is one
+abbrev pub and_named : {X B : Type 0} → (before : List X) → Option (Placed X B) → List X
+and_named before None = before
+and_named before (Some option) = before ++ option.0 ∷ []
+
+-- An option has the same name as an earlier one.
 module _ {X B : Type 0} (same : X → X → Bool) (rule : X → Rule B) where
-  abbrev pub repeated_broken : (before : List X) → List (Placed X B) → List (Broken B)
-  repeated_broken before [] = []
-  repeated_broken before (option ∷ options) =
-      broken_if (list_any (same option.0) before) (rule option.0) option.1 ++ repeated_broken (before ++ option.0 ∷ []) options
+  abbrev pub repeated_broken : (before : List X) → Option (Placed X B) → List (Broken B)
+  repeated_broken before None = []
+  repeated_broken before (Some option) = broken_if (list_any (same option.0) before) (rule option.0) option.1
 
 module _ {B : Type 0} where
   -- The arguments of a dependency have a second star.
@@ -78,17 +87,23 @@ module _ {A B : Type 0} (view : LeafView A B) where
   abbrev pub first_character : Placed (List ℕ) B → Option (Placed ℕ B)
   first_character option = option_map (λ (c : ℕ). (c, option.1)) (first_of (chars option.0))
 
-  abbrev pub long_options : List (ArgumentRules A B) → List (Placed (List ℕ) B)
-  long_options rules = map with_text (filter_map (λ (a : ArgumentRules A B). option_of a.name a.long) rules)
+  abbrev pub long_option : ArgumentRules A B → Option (Placed (List ℕ) B)
+  long_option a = option_map with_text (option_of a.name a.long)
 
-  abbrev pub short_options : List (ArgumentRules A B) → List (Placed ℕ B)
-  short_options rules = filter_map first_character (map with_text (filter_map (λ (a : ArgumentRules A B). option_of a.name a.short) rules))
+  abbrev pub short_option : ArgumentRules A B → Option (Placed ℕ B)
+  short_option a = if_named first_character (option_map with_text (option_of a.name a.short))
 
-  -- Two options of the recipe with this name have the same name.
-  abbrev pub options_broken : (recipe : B) → List (ArgumentRules A B) → List (Broken B)
-  options_broken recipe rules =
-      repeated_broken bytes_eq (λ option. DuplicateLongOption option recipe) [] (long_options rules)
-      ++ repeated_broken nat_eq (λ option. DuplicateShortOption option recipe) [] (short_options rules)
+  -- what the options of the recipe with this name break after those with these names: attribute by attribute, of each the long option first
+  module _ (recipe : B) where
+    abbrev pub options_after : (longs : List (List ℕ)) (shorts : List ℕ) → List (ArgumentRules A B) → List (Broken B)
+    options_after longs shorts [] = []
+    options_after longs shorts (a ∷ rules) =
+        repeated_broken bytes_eq (λ option. DuplicateLongOption option recipe) longs (long_option a)
+        ++ (repeated_broken nat_eq (λ option. DuplicateShortOption option recipe) shorts (short_option a)
+        ++ options_after (and_named longs (long_option a)) (and_named shorts (short_option a)) rules)
+
+    abbrev pub options_broken : List (ArgumentRules A B) → List (Broken B)
+    options_broken rules = options_after [] [] rules
 
   -- ---- parameters
 

@@ -6,11 +6,12 @@ use Rattle.justfile_vocabulary.specs.declared.keyword.Keyword.{Keyword}
 use Rattle.justfile_vocabulary.specs.declared.keyword.Keyword.TheVariants as words
 use Rattle.justfile_vocabulary.specs.declared.token_kind.TokenKind.{TokenKind}
 use Rattle.justfile_vocabulary.specs.declared.token_kind.TokenKind.TheVariants as kinds
+use Rattle.justfile_model.specs.declared.level.Level.TheVariants as levels
 use Rattle.justfile_model.specs.Readers.ExpressionReader as expressions
-use Rattle.justfile_model.specs.Readers.ExpressionReader.{cooked}
+use Rattle.justfile_model.specs.Readers.ExpressionReader.{cooked, is_within}
 use Rattle.justfile_model.specs.Readers.HeaderReader.{next_binding_number, expression, obeying}
 use Rattle.justfile_model.specs.LiteralTexts.Literals.{string_of}
-use Rattle.justfile_model.specs.Readers.ReaderState.{◌>>=◌, Counters, ExpectedKeyword, Leaves, Read, State, Taken, Unexpected, UnknownSetting, accept, accept_keyword, choose, expect, is_word, next_are, refused}
+use Rattle.justfile_model.specs.Readers.ReaderState.{◌>>=◌, Counters, ExpectedKeyword, Leaves, Read, State, Taken, TooDeep, Unexpected, UnknownSetting, accept, accept_keyword, choose, expect, is_word, next_are, refused}
 use Rattle.justfile_model.specs.Lists.Recursive.{recursive}
 use Rattle.justfile_model.specs.Meanings.SettingRules.{value_broken}
 use Rattle.justfile_model.specs.Grammars.Settings.{ExpressionForm, InterpreterForm, PlainForm, SettingForm, TruthForm}
@@ -148,8 +149,9 @@ module _ {R T A B S : Type 0} (leaves : Leaves R T A B S) where
   unfoldable pub truth : State R T B → Read R T B (SettingValue A B)
   truth s = choose (accept leaves kinds.ColonEquals s) (Ok (tree.Truth true, s)) (λ operator. expect leaves kinds.Identifier operator.1 >>= truth_of)
 
+  -- the command and its arguments; if there are none, what is next is refused as the command, which may be too deep
   abbrev pub some_command : (first : State R T B) → Exprs A B × State R T B → Read R T B (SettingValue A B)
-  some_command first (tree.none, s) = Err (refused Unexpected first)
+  some_command first (tree.none, s) = if is_within (leaves.conditions first.run).limit levels.Expression first then Err (refused Unexpected first) else Err (refused TooDeep first)
   some_command first (tree.more e es, s) = Ok (tree.Interpreter e es, s)
 
   -- a list of expressions in brackets, at least one

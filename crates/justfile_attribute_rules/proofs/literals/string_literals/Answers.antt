@@ -12,7 +12,7 @@ loop-first-preserved c =
       tt,
       tt,
       c.loop-first.invariant.2
-          ∙ literal_turn c.args.name.token c.loop-first.literals.items c.in_ok-literal.literal (into_iter_items c.loop-first.first-iterator) rest
-          (c.in-Some.first, c.in-Some.value) c.in-Some.ensures.steps.0 c.in_ok-literal.ensures
-          ∙ ap (λ ls. goes_on (placed_literal views_keys c.args.name.token) (quoted_leaves ls) (positional_leaves rest)) (sym c.in_ok-push.ensures.items),
+          ∙ literal_turn c.args.name.token c.loop-first.literals.items c.in-Ok.literal (into_iter_items c.loop-first.first-iterator) rest
+          (c.in-Some.first, c.in-Some.value) c.in-Some.ensures.steps.0 c.in-Ok.ensures
+          ∙ ap (λ ls. goes_on (placed_literal views_keys c.args.name.token) (quoted_leaves ls) (positional_leaves rest)) (sym c.in-Ok-push.ensures.items),
     )

@@ -18,7 +18,7 @@ loop-literal-preserved c =
       tt,
       tt,
       c.loop-literal.invariant.2
-          ∙ set_turn c.loop-literal.signals.keys (into_iter_items c.loop-literal.literal-iterator) rest c.in-Some.literal c.in_ok-signal.signal
-          c.in-Some.ensures.steps.0 c.in_ok-signal.ensures
-          ∙ ap (λ keys. adds_up keys (quoted_leaves rest)) (sym c.in_ok-insert.ensures.keys),
+          ∙ set_turn c.loop-literal.signals.keys (into_iter_items c.loop-literal.literal-iterator) rest c.in-Some.literal c.in-Ok.signal
+          c.in-Some.ensures.steps.0 c.in-Ok.ensures
+          ∙ ap (λ keys. adds_up keys (quoted_leaves rest)) (sym c.in-Ok-insert.ensures.keys),
     )

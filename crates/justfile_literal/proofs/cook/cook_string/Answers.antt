@@ -17,7 +17,7 @@ loop-character-preserved c =
     record {
       utf8 = c.in-Ok.ensures.utf8;
       leads = leads_more c.args.text.now (string_bytes c.loop-character.cooked) c.loop-character.rest.now i.leads i.utf8
-          c.in-Ok.next.now (chars c.in-Some.after_first.now) (string_bytes c.push_piece.new.cooked) c.in-Some.character c.in-Ok.value c.in-Ok.ensures.utf8 c.in-Some.ensures.value (sym c.in-Ok.ensures.found) c.in_ok-push_piece-in-Ok.ensures;
+          c.in-Ok.next.now (chars c.in-Some.after_first.now) (string_bytes c.push_piece.new.cooked) c.in-Some.character c.in-Ok.value c.in-Ok.ensures.utf8 c.in-Some.ensures.value (sym c.in-Ok.ensures.found) c.in-Ok-push_piece.ensures;
     }
 
 pub returns-in-Err-clause-err : goal.returns-in-Err-clause-err

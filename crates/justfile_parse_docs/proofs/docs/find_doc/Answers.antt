@@ -1,5 +1,5 @@
 use Rattle.std.proofs.Common.{◌∙◌, ◌-◌, length, sym, arith}
-use Rattle.justfile_parse_docs.proofs.DocSteps.{after_line, after_other, comment_begins}
+use Rattle.justfile_parse_docs.proofs.DocSteps.{after_item, comment_begins}
 use Rattle.justfile_parse_docs.proofs.docs.find_doc.Goals as goal
 
 pub find_first_doc-requires : goal.find_first_doc-requires
@@ -7,20 +7,14 @@ find_first_doc-requires c =
     comment_begins c.args.items.now (length c.args.items.now - 2) c.index-items-count-2.result (omega arith) c.index-items-count-2.is c.requires c.in_ok-comment.comment.now
     (sym c.in_ok-comment.ensures)
 
-pub find_text-requires : goal.find_text-requires
-find_text-requires c =
+pub find_later_doc-requires : goal.find_later_doc-requires
+find_later_doc-requires c =
     comment_begins c.args.items.now (length c.args.items.now - 2) c.index-items-count-2.result (omega arith) c.index-items-count-2.is c.requires c.in_ok-comment.comment.now
     (sym c.in_ok-comment.ensures)
 
-pub returns-then-is_line_end : goal.returns-then-is_line_end
-returns-then-is_line_end c =
-    c.find_text.ensures
-    ∙ sym (after_line c.args.items.now (length c.args.items.now - 1) (length c.args.items.now - 2) _ (omega arith) (omega arith) (omega arith)
+pub returns : goal.returns
+returns c =
+    c.find_later_doc.ensures
+    ∙ sym (after_item c.args.items.now (length c.args.items.now - 1) (length c.args.items.now - 2) _ (omega arith) (omega arith) (omega arith)
     c.index-items-count.result c.index-items-count-2.result c.index-items-count-3.result c.index-items-count.is c.index-items-count-2.is c.index-items-count-3.is
-    c.in_ok-comment.comment.now (sym c.is_line_end.ensures ∙ c.if-not-is_line_end.false) (sym c.in_ok-comment.ensures) (sym c.is_line_end-2.ensures ∙ c.if-is_line_end.true))
-
-pub returns-else-is_line_end : goal.returns-else-is_line_end
-returns-else-is_line_end c =
-    sym (after_other c.args.items.now (length c.args.items.now - 1) (length c.args.items.now - 2) _ (omega arith) (omega arith) (omega arith)
-    c.index-items-count.result c.index-items-count-2.result c.index-items-count-3.result c.index-items-count.is c.index-items-count-2.is c.index-items-count-3.is
-    c.in_ok-comment.comment.now (sym c.is_line_end.ensures ∙ c.if-not-is_line_end.false) (sym c.in_ok-comment.ensures) (sym c.is_line_end-2.ensures ∙ c.if-is_line_end.false))
+    c.in_ok-comment.comment.now (sym c.is_line_end.ensures ∙ c.if-not-is_line_end.false) (sym c.in_ok-comment.ensures) c.is_line_end-2.result (sym c.is_line_end-2.ensures))

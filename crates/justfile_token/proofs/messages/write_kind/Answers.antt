@@ -27,6 +27,12 @@ returns-in-AttributeKeyMissingValue g c = rw c.in-AttributeKeyMissingValue.is c.
 pub returns-in-AttributeKeyTakesNoValue : goal.returns-in-AttributeKeyTakesNoValue
 returns-in-AttributeKeyTakesNoValue g c = rw c.in-AttributeKeyTakesNoValue.is c.write_around-in-AttributeKeyTakesNoValue.ensures
 
+pub returns-in-AttributePositionalFollowsKeyword : goal.returns-in-AttributePositionalFollowsKeyword
+returns-in-AttributePositionalFollowsKeyword g c = rw c.in-AttributePositionalFollowsKeyword.is c.write_str.ensures.writes
+
+pub returns-in-BacktickShebang : goal.returns-in-BacktickShebang
+returns-in-BacktickShebang g c = rw c.in-BacktickShebang.is c.write_str-in-BacktickShebang.ensures.writes
+
 pub returns-in-DependencyArgumentCountMismatch : goal.returns-in-DependencyArgumentCountMismatch
 returns-in-DependencyArgumentCountMismatch g c = rw c.in-DependencyArgumentCountMismatch.is c.write_count_mismatch-in-DependencyArgumentCountMismatch.ensures
 
@@ -63,11 +69,17 @@ returns-in-DuplicateUnexport g c = rw c.in-DuplicateUnexport.is c.write_around-i
 pub returns-in-DuplicateVariable : goal.returns-in-DuplicateVariable
 returns-in-DuplicateVariable g c = rw c.in-DuplicateVariable.is c.write_around-in-DuplicateVariable.ensures
 
+pub returns-in-EscapeEndOfFile : goal.returns-in-EscapeEndOfFile
+returns-in-EscapeEndOfFile g c = rw c.in-EscapeEndOfFile.is c.write_str-in-EscapeEndOfFile.ensures.writes
+
 pub returns-in-ExitMessageAndNoExitMessageAttribute : goal.returns-in-ExitMessageAndNoExitMessageAttribute
 returns-in-ExitMessageAndNoExitMessageAttribute g c = rw c.in-ExitMessageAndNoExitMessageAttribute.is c.write_around-in-ExitMessageAndNoExitMessageAttribute.ensures
 
 pub returns-in-ExportUnexported : goal.returns-in-ExportUnexported
 returns-in-ExportUnexported g c = rw c.in-ExportUnexported.is c.write_around-in-ExportUnexported.ensures
+
+pub returns-in-ExtraLeadingWhitespace : goal.returns-in-ExtraLeadingWhitespace
+returns-in-ExtraLeadingWhitespace g c = rw c.in-ExtraLeadingWhitespace.is c.write_str-in-ExtraLeadingWhitespace.ensures.writes
 
 pub returns-in-ExtraneousAttributes : goal.returns-in-ExtraneousAttributes
 returns-in-ExtraneousAttributes g c = rw c.in-ExtraneousAttributes.is c.write_extraneous.ensures
@@ -87,6 +99,9 @@ returns-in-FlagWithDefault g c = rw c.in-FlagWithDefault.is c.write_around-in-Fl
 pub returns-in-FunctionArgumentCountMismatch : goal.returns-in-FunctionArgumentCountMismatch
 returns-in-FunctionArgumentCountMismatch g c = rw c.in-FunctionArgumentCountMismatch.is c.write_function_mismatch.ensures
 
+pub returns-in-GuardAndInfallibleSigil : goal.returns-in-GuardAndInfallibleSigil
+returns-in-GuardAndInfallibleSigil g c = rw c.in-GuardAndInfallibleSigil.is c.write_str-in-GuardAndInfallibleSigil.ensures.writes
+
 pub returns-in-IncompatibleSettings : goal.returns-in-IncompatibleSettings
 returns-in-IncompatibleSettings g c = rw c.in-IncompatibleSettings.is c.write_incompatible.ensures
 
@@ -102,11 +117,23 @@ returns-in-InvalidAttribute g c = rw c.in-InvalidAttribute.is c.write_invalid_at
 pub returns-in-InvalidEscapeSequence : goal.returns-in-InvalidEscapeSequence
 returns-in-InvalidEscapeSequence g c = rw c.in-InvalidEscapeSequence.is c.write_around-in-InvalidEscapeSequence.ensures
 
+pub returns-in-InvalidIndentation : goal.returns-in-InvalidIndentation
+returns-in-InvalidIndentation g c = rw c.in-InvalidIndentation.is c.write_str-in-InvalidIndentation.ensures.writes
+
 pub returns-in-InvalidMinimumVersion : goal.returns-in-InvalidMinimumVersion
 returns-in-InvalidMinimumVersion g c = rw c.in-InvalidMinimumVersion.is c.write_invalid_version.ensures
 
 pub returns-in-InvalidSignal : goal.returns-in-InvalidSignal
 returns-in-InvalidSignal g c = rw c.in-InvalidSignal.is c.write_around-in-InvalidSignal.ensures
+
+pub returns-in-MappedDependencyMultipleStarredArguments : goal.returns-in-MappedDependencyMultipleStarredArguments
+returns-in-MappedDependencyMultipleStarredArguments g c = rw c.in-MappedDependencyMultipleStarredArguments.is c.write_str-in-MappedDependencyMultipleStarredArguments.ensures.writes
+
+pub returns-in-MappedDependencyWithoutListsSetting : goal.returns-in-MappedDependencyWithoutListsSetting
+returns-in-MappedDependencyWithoutListsSetting g c = rw c.in-MappedDependencyWithoutListsSetting.is c.write_str-in-MappedDependencyWithoutListsSetting.ensures.writes
+
+pub returns-in-MappedDependencyWithoutStarredArgument : goal.returns-in-MappedDependencyWithoutStarredArgument
+returns-in-MappedDependencyWithoutStarredArgument g c = rw c.in-MappedDependencyWithoutStarredArgument.is c.write_str-in-MappedDependencyWithoutStarredArgument.ensures.writes
 
 pub returns-in-MinimumVersion : goal.returns-in-MinimumVersion
 returns-in-MinimumVersion g c = rw c.in-MinimumVersion.is c.write_minimum_version.ensures
@@ -132,6 +159,9 @@ returns-in-OptionNameStartsWithDash g c = rw c.in-OptionNameStartsWithDash.is c.
 pub returns-in-ParameterFollowsVariadicParameter : goal.returns-in-ParameterFollowsVariadicParameter
 returns-in-ParameterFollowsVariadicParameter g c = rw c.in-ParameterFollowsVariadicParameter.is c.write_around-in-ParameterFollowsVariadicParameter.ensures
 
+pub returns-in-ParsingRecursionDepthExceeded : goal.returns-in-ParsingRecursionDepthExceeded
+returns-in-ParsingRecursionDepthExceeded g c = rw c.in-ParsingRecursionDepthExceeded.is c.write_str-in-ParsingRecursionDepthExceeded.ensures.writes
+
 pub returns-in-Redefinition : goal.returns-in-Redefinition
 returns-in-Redefinition g c = rw c.in-Redefinition.is c.write_redefinition.ensures
 
@@ -146,6 +176,9 @@ returns-in-SettingExpression g c = rw c.in-SettingExpression.is c.write_around-i
 
 pub returns-in-ShortOptionWithMultipleCharacters : goal.returns-in-ShortOptionWithMultipleCharacters
 returns-in-ShortOptionWithMultipleCharacters g c = rw c.in-ShortOptionWithMultipleCharacters.is c.write_around-in-ShortOptionWithMultipleCharacters.ensures
+
+pub returns-in-StarredArgumentOutsideMappedDependency : goal.returns-in-StarredArgumentOutsideMappedDependency
+returns-in-StarredArgumentOutsideMappedDependency g c = rw c.in-StarredArgumentOutsideMappedDependency.is c.write_str-in-StarredArgumentOutsideMappedDependency.ensures.writes
 
 pub returns-in-UndefinedArgAttribute : goal.returns-in-UndefinedArgAttribute
 returns-in-UndefinedArgAttribute g c = rw c.in-UndefinedArgAttribute.is c.write_around-in-UndefinedArgAttribute.ensures
@@ -162,11 +195,17 @@ returns-in-UnicodeEscapeCharacter g c = rw c.in-UnicodeEscapeCharacter.is c.writ
 pub returns-in-UnicodeEscapeDelimiter : goal.returns-in-UnicodeEscapeDelimiter
 returns-in-UnicodeEscapeDelimiter g c = rw c.in-UnicodeEscapeDelimiter.is c.write_around-in-UnicodeEscapeDelimiter.ensures
 
+pub returns-in-UnicodeEscapeEmpty : goal.returns-in-UnicodeEscapeEmpty
+returns-in-UnicodeEscapeEmpty g c = rw c.in-UnicodeEscapeEmpty.is c.write_str-in-UnicodeEscapeEmpty.ensures.writes
+
 pub returns-in-UnicodeEscapeLength : goal.returns-in-UnicodeEscapeLength
 returns-in-UnicodeEscapeLength g c = rw c.in-UnicodeEscapeLength.is c.write_around-in-UnicodeEscapeLength.ensures
 
 pub returns-in-UnicodeEscapeRange : goal.returns-in-UnicodeEscapeRange
 returns-in-UnicodeEscapeRange g c = rw c.in-UnicodeEscapeRange.is c.write_around-in-UnicodeEscapeRange.ensures
+
+pub returns-in-UnicodeEscapeUnterminated : goal.returns-in-UnicodeEscapeUnterminated
+returns-in-UnicodeEscapeUnterminated g c = rw c.in-UnicodeEscapeUnterminated.is c.write_str-in-UnicodeEscapeUnterminated.ensures.writes
 
 pub returns-in-UnknownAliasTarget : goal.returns-in-UnknownAliasTarget
 returns-in-UnknownAliasTarget g c = rw c.in-UnknownAliasTarget.is c.write_both-in-UnknownAliasTarget.ensures
@@ -182,3 +221,15 @@ returns-in-UnknownDependency g c = rw c.in-UnknownDependency.is c.write_both-in-
 
 pub returns-in-UnknownSetting : goal.returns-in-UnknownSetting
 returns-in-UnknownSetting g c = rw c.in-UnknownSetting.is c.write_around-in-UnknownSetting.ensures
+
+pub returns-in-UnpairedCarriageReturn : goal.returns-in-UnpairedCarriageReturn
+returns-in-UnpairedCarriageReturn g c = rw c.in-UnpairedCarriageReturn.is c.write_str-in-UnpairedCarriageReturn.ensures.writes
+
+pub returns-in-UnterminatedBacktick : goal.returns-in-UnterminatedBacktick
+returns-in-UnterminatedBacktick g c = rw c.in-UnterminatedBacktick.is c.write_str-in-UnterminatedBacktick.ensures.writes
+
+pub returns-in-UnterminatedInterpolation : goal.returns-in-UnterminatedInterpolation
+returns-in-UnterminatedInterpolation g c = rw c.in-UnterminatedInterpolation.is c.write_str-in-UnterminatedInterpolation.ensures.writes
+
+pub returns-in-UnterminatedString : goal.returns-in-UnterminatedString
+returns-in-UnterminatedString g c = rw c.in-UnterminatedString.is c.write_str-in-UnterminatedString.ensures.writes

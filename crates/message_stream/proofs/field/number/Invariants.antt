@@ -1,6 +1,6 @@
 use Rattle.std.proofs.Common.{◌≡◌, ◌≤◌, take}
 use Rattle.message_stream.specs.declared.field.TheConstants.{MOST}
-use Rattle.message_stream.specs.Header.{number}
+use Rattle.message_stream.specs.Field.{number}
 use Rattle.message_stream.proofs.field.number.Given as goal
 
 abbrev pub invariant-loop-digit : goal.invariant-loop-digit
