@@ -1,7 +1,12 @@
 -- What a room that a text was put into says of the text.
-use Rattle.std.proofs.Common.{◌∙◌, ℕ, List, take, drop, length, arith}
+use Rattle.std.proofs.Common.{◌∙◌, ◌≡◌, subst, ℕ, List, take, drop, length, arith}
 use Rattle.std.proofs.Math.Seq.{take-append_seam}
-use Rattle.justfile_c.specs.Answers.{Gives, IsLaid, laid, longer}
+use Rattle.std.specs.Prelude.{codes, string_bytes}
+use Rattle.justfile_canonical.specs.Fault.{IsFormatFaultOf, IsRejectionOf}
+use Rattle.justfile_canonical.specs.declared.fault.FormatFault.{FormatFault}
+use Rattle.justfile_canonical.specs.declared.fault.FormatFault.TheVariants.{Rejected}
+use Rattle.justfile_canonical.specs.declared.fault.Rejection.{Rejection}
+use Rattle.justfile_c.specs.Answers.{Gives, IsAt, IsLaid, IsRefusal, laid, longer, rejected}
 use Rattle.justfile_c.specs.declared.JustfileAnswer.{JustfileAnswer}
 
 pub given : (Holds : List ℕ → Type 0) (text old new : List ℕ) (answer : JustfileAnswer) → Holds text → IsLaid text old new answer
@@ -18,3 +23,21 @@ given Holds text old new answer holds (longer same fits short is) = record {
   length_is = same;
   begins = λ one. let never : ⊥ = omega arith in absurd never;
 }
+
+-- The answer tells the place of the rejection's token.
+refusal : (source : List ℕ) (rejection : Rejection) (answer : JustfileAnswer) → IsRejectionOf (codes "justfile") source rejection
+    → IsAt rejection.offset rejection.length rejection.line rejection.column answer → IsRefusal source answer (string_bytes rejection.lines)
+refusal source rejection answer of at = rejected of.told (record {
+  offset_is = at.offset_is ∙ of.place.offset;
+  width_is = at.width_is ∙ of.place.length;
+  line_is = at.line_is ∙ of.place.line;
+  column_is = at.column_is ∙ of.place.column;
+})
+
+-- the same for the fault of a text that the bytes are
+pub refused : (bytes text : List ℕ) (fault : FormatFault) (rejection : Rejection) (answer : JustfileAnswer) → text ≡ bytes → fault ≡ Rejected rejection
+    → IsFormatFaultOf (codes "justfile") text fault → IsAt rejection.offset rejection.length rejection.line rejection.column answer
+    → IsRefusal bytes answer (string_bytes rejection.lines)
+refused bytes text fault rejection answer same is of at =
+    let found : IsFormatFaultOf (codes "justfile") text (Rejected rejection) = subst (λ (it : FormatFault). IsFormatFaultOf (codes "justfile") text it) is of
+    in refusal bytes rejection answer (subst (λ (it : List ℕ). IsRejectionOf (codes "justfile") it rejection) same found) at
