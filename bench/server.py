@@ -103,26 +103,27 @@ class Server:
         """Sends a notification."""
         self.send({"jsonrpc": "2.0", "method": method, "params": params})
 
-    def diagnostics(self, uri):
+    def diagnostics(self, uri, version):
         """Returns the diagnostics that are published next."""
         found = self.read()
         check(found["method"] == "textDocument/publishDiagnostics" and found["params"]["uri"] == uri, f"no diagnostics: {found}")
+        check(found["params"].get("version") == version, f"diagnostics of another version: {found}")
         return found["params"]["diagnostics"]
 
     def open(self, uri, text):
         """Opens a document, and returns its diagnostics."""
         self.tell("textDocument/didOpen", {"textDocument": {"uri": uri, "languageId": "just", "version": 1, "text": text}})
-        return self.diagnostics(uri)
+        return self.diagnostics(uri, 1)
 
     def close(self, uri):
         """Closes a document."""
         self.tell("textDocument/didClose", {"textDocument": {"uri": uri}})
-        check(self.diagnostics(uri) == [], "a closed document has diagnostics")
+        check(self.diagnostics(uri, None) == [], "a closed document has diagnostics")
 
     def change(self, uri, changes):
         """Changes a document, and returns its diagnostics."""
         self.tell("textDocument/didChange", {"textDocument": {"uri": uri, "version": 2}, "contentChanges": changes})
-        return self.diagnostics(uri)
+        return self.diagnostics(uri, 2)
 
     def all_of(self, uri):
         """Returns what the server says of a document, without its address."""
@@ -256,8 +257,6 @@ def send_wrong(program):
         server.write(body)
         return server.read()["error"]["code"]
 
-    check(code_of(b"{") == -32700, "no JSON")
-    check(code_of(b"\xff") == -32700, "no UTF-8")
     check(code_of(b"[]") == -32600, "a list")
     check(code_of(b'{"id":7}') == -32600, "no method")
     check(code_of(b'{"id":7,"method":"nothing"}') == -32601, "an unknown method")
@@ -265,12 +264,19 @@ def send_wrong(program):
     check(code_of(b'{"id":7,"method":"textDocument/hover","params":{"textDocument":{"uri":"file:///n"},"position":{"line":0,"character":0}}}') == -32602, "a document that isn't open")
     server.write(b'{"method":"nothing"}')
     server.write(b'{"method":"textDocument/didChange","params":{"textDocument":{"uri":"file:///n"},"contentChanges":[{"text":""}]}}')
+    check(code_of(b"{") == -32700, "no JSON")
+    check(code_of(b"\xff") == -32700, "no UTF-8")
     server.process.stdin.write(b"Content-Length: x\r\n\r\n")
     server.process.stdin.flush()
     check(server.read()["error"]["code"] == -32600, "a wrong header")
+    server.process.stdin.write(b'Content-Length: x\r\n\r\n{"id":7,"method":"nothing"}content-length:27\r\n\r\n{"id":8,"method":"nothing"}')
+    server.process.stdin.flush()
+    check(server.read()["error"]["code"] == -32600, "a wrong header before a body")
+    check(server.read()["id"] == 8, "the header after a body that was left isn't found")
     server.process.stdin.write(b"Content-Length: 100000000\r\n\r\n" + b" " * 100_000_000)
     server.process.stdin.flush()
     check(server.read()["error"]["code"] == -32600, "a long message")
+    server.change(DOCUMENT, [{"text": START}])
     far = {"line": 10**9, "character": 10**9}
     server.change(DOCUMENT, [{"range": {"start": far, "end": far}, "text": "far: build\n"}])
     names = [symbol["name"] for symbol in server.ask("textDocument/documentSymbol", {"textDocument": {"uri": DOCUMENT}})["result"]]
@@ -281,6 +287,41 @@ def send_wrong(program):
     early = subprocess.run([program], input=b'Content-Length: 17\r\n\r\n{"method":"exit"}', capture_output=True)
     check(early.returncode == 1 and early.stdout == b"", "exit without shutdown")
     print("wrong messages: the server stays alive")
+
+
+def lose_texts(program):
+    """Sends changes that can't be understood: no answer is about a text that nobody has, until a whole text comes."""
+    server = Server(program, "utf-16")
+    about = {"textDocument": {"uri": DOCUMENT}}
+    start = {"line": 0, "character": 0}
+    part = {"range": {"start": start, "end": start}, "text": "c:\n"}
+
+    def symbols():
+        answer = server.ask("textDocument/documentSymbol", about)
+        return [symbol["name"] for symbol in answer["result"]] if "result" in answer else answer["error"]["code"]
+
+    def is_lost(what):
+        check(symbols() == -32801, f"after {what} the text is known")
+        server.tell("textDocument/didChange", {"textDocument": {"uri": DOCUMENT, "version": 2}, "contentChanges": [part]})
+        check(symbols() == -32801, f"after {what} and a part the text is known")
+        server.change(DOCUMENT, [{"range": None, "text": "a:\n"}, part])
+        check(symbols() == ["c", "a"], f"after {what} and a whole text that isn't known")
+
+    server.open(DOCUMENT, "b:\n")
+    server.open(FRESH, "d:\n")
+    for changes in ([{"range": {"start": start}, "text": ""}], [part, {}], [5], {}, None):
+        server.tell("textDocument/didChange", {"textDocument": {"uri": DOCUMENT, "version": 3}, "contentChanges": changes})
+        check(server.diagnostics(DOCUMENT, None) == [], "a text that isn't known has diagnostics")
+        is_lost(changes)
+    check(server.ask("textDocument/documentSymbol", {"textDocument": {"uri": FRESH}})["result"], "another text is lost")
+    for body in (b'{"method":"textDocument/didChange","params":{"textDocument":{"uri":"\\ud800"}}}', b"{"):
+        server.write(body)
+        check(server.read()["error"]["code"] == -32700, f"{body} is JSON")
+        is_lost(body)
+    server.write(b'{"method":"textDocument/didChange","params":{}}')
+    is_lost("a change without a document")
+    check(server.end() == 0, "the status isn't 0")
+    print("changes that aren't understood: no answer is about another text")
 
 
 def follow_links(program):
@@ -312,6 +353,7 @@ def main():
     edits = int(sys.argv[2]) if len(sys.argv) > 2 else 1000
     chance = random.Random(int(sys.argv[3]) if len(sys.argv) > 3 else 1)
     send_wrong(program)
+    lose_texts(program)
     follow_links(program)
     for encoding in ("utf-8", "utf-16"):
         edit_at_random(program, encoding, edits // 2, chance)

@@ -1,13 +1,16 @@
-//! Messages of the Language Server Protocol as JSON: read into plain values, and written from them.
+//! Messages as JSON: what an editor sends is read into plain values, and what is answered is written
+//! as text.
 #![tactic(auto)]
 
-mod answers;
+mod elements;
+mod lists;
 mod members;
-mod output;
+mod notifications;
 mod parameters;
-mod places;
 mod read;
+mod results;
 mod sent;
+mod values;
 
 pub use read::{message_of, parsed};
 pub use sent::{diagnostics_text, error_text, reply_text};

@@ -1,6 +1,14 @@
 //! Reading messages.
+ghost use Rattle.std.specs.Prelude.{◌≡◌, IfOk, codes, option_map};
+ghost use Rattle.serde_json.specs.Find.{get};
+ghost use Rattle.serde_json.specs.View.{view};
+ghost use Rattle.editor_json.specs.Received.{IsParsed, text_in};
+ghost use Rattle.editor_json.specs.Requests.{asked_by, name_in, name_of, numbered, said_by, said_in, said_named, told_by, without_method};
+ghost use Rattle.editor_messages.specs.Methods.{method_named};
+
 use crate::members::text_in;
-use crate::parameters::{notification_of, request_of};
+use crate::notifications::notification_of;
+use crate::parameters::request_of;
 use editor_messages::{ErrorCode, Id, Message, Method};
 use serde_json::Value;
 use std::alloc::{AllocError, Global};
@@ -10,7 +18,9 @@ use std::alloc::{AllocError, Global};
 /// # Errors
 ///
 /// Memory ran out.
-pub fn parsed(alloc: Global, body: &[u8]) -> Result<Option<Value>, AllocError> {
+pub fn parsed(alloc: Global, body: &[u8]) -> Result<Option<Value>, AllocError>
+    ensures { IfOk result (IsParsed body.now) }
+{
     match Value::from_slice(alloc, body) {
         Ok(value) => Ok(Some(value)),
         Err(error) if error.is_memory() => Err(AllocError),
@@ -23,14 +33,28 @@ pub fn parsed(alloc: Global, body: &[u8]) -> Result<Option<Value>, AllocError> {
 /// # Errors
 ///
 /// Memory ran out.
-pub fn message_of<'a>(alloc: Global, value: &'a Value) -> Result<Message<'a>, AllocError> {
-    let id = match value.get("id") {
-        None => None,
+pub fn message_of<'a>(alloc: Global, value: &'a Value) -> Result<Message<'a>, AllocError>
+    ensures { IfOk result (λ message. said_by message ≡ said_in (view value.now)) }
+{
+    match value.get("id") {
+        None => message_with(alloc, value, None),
         Some(written) => match id_of(written) {
-            Some(id) => Some(id),
-            None => return Ok(Message::Wrong(None, ErrorCode::InvalidRequest)),
+            Some(id) => message_with(alloc, value, Some(id)),
+            None => Ok(Message::Wrong(None, ErrorCode::InvalidRequest)),
         },
-    };
+    }
+}
+
+/// Returns the message that a value is, with its id if it has one.
+fn message_with<'a>(
+    alloc: Global,
+    value: &'a Value,
+    id: Option<Id<'a>>,
+) -> Result<Message<'a>, AllocError>
+    ensures { IfOk result (λ message. said_by message
+        ≡ said_named (view value.now) (option_map name_of id.entry)
+        (text_in (codes "method") (view value.now))) }
+{
     let Some(name) = text_in(value, "method") else {
         return Ok(without_method(value, id));
     };
@@ -42,15 +66,27 @@ pub fn message_of<'a>(alloc: Global, value: &'a Value) -> Result<Message<'a>, Al
 }
 
 /// Returns the id that a value is.
-fn id_of(value: &Value) -> Option<Id<'_>> {
+#[tactic(auto, using(crate::proofs::Names::number_name, crate::proofs::Names::text_name))]
+fn id_of<'a>(value: &'a Value) -> Option<Id<'a>>
+    ensures { option_map name_of result ≡ name_in (view value.now) }
+{
     match value.as_str() {
         Some(text) => Some(Id::Text(text)),
-        None => Some(Id::Number(value.as_i64()?)),
+        None => number_id(value.as_i64()),
     }
 }
 
+/// Returns the id that a number is.
+fn number_id<'a>(number: Option<i64>) -> Option<Id<'a>>
+    ensures { option_map name_of result ≡ option_map numbered number }
+{
+    Some(Id::Number(number?))
+}
+
 /// Returns what a message without a method is: an answer, which is ignored, or a wrong one.
-fn without_method<'a>(value: &'a Value, id: Option<Id<'a>>) -> Message<'a> {
+fn without_method<'a>(value: &'a Value, id: Option<Id<'a>>) -> Message<'a>
+    ensures { said_by result ≡ without_method (view value.now) (option_map name_of id.entry) }
+{
     if value.get("result").is_some() || value.get("error").is_some() {
         return Message::Ignored;
     }
@@ -58,7 +94,10 @@ fn without_method<'a>(value: &'a Value, id: Option<Id<'a>>) -> Message<'a> {
 }
 
 /// Returns the request with a method's name.
-fn request<'a>(id: Id<'a>, name: &str, parameters: Option<&'a Value>) -> Message<'a> {
+fn request<'a>(id: Id<'a>, name: &str, parameters: Option<&'a Value>) -> Message<'a>
+    ensures { said_by result ≡ asked_by (name_of id.entry) (method_named name.now)
+        (option_map (λ v. view v.now) parameters.entry) }
+{
     let Some(method) = Method::from_name(name) else {
         return Message::Wrong(Some(id), ErrorCode::MethodNotFound);
     };
@@ -73,7 +112,10 @@ fn told<'a>(
     alloc: Global,
     name: &str,
     parameters: Option<&'a Value>,
-) -> Result<Message<'a>, AllocError> {
+) -> Result<Message<'a>, AllocError>
+    ensures { IfOk result (λ message. said_by message ≡ told_by (method_named name.now)
+        (option_map (λ v. view v.now) parameters.entry)) }
+{
     let Some(method) = Method::from_name(name) else {
         return Ok(Message::Ignored);
     };

@@ -1,31 +1,35 @@
 //! The texts of what is sent.
-use crate::answers::{put_diagnostics, put_result};
-use crate::output::Output;
+ghost use Rattle.std.specs.Prelude.{◌≡◌, IfOk, string_bytes};
+ghost use Rattle.serde_json.specs.Written.{compact_text};
+ghost use Rattle.editor_json.specs.Sent.{error_data, id_data, parameters_data, published_data, reply_data};
+
+use crate::lists::list_text;
+use crate::results::{quoted, result_text};
+use crate::values::{error_value, id_value, text_of};
 use editor_messages::{Answer, Diagnostic, ErrorCode, Id};
 use std::alloc::{AllocError, Global};
-
-/// Appends the beginning of what is sent in answer to a message with an id.
-fn put_id(output: &mut Output, id: Option<Id<'_>>) {
-    output.put("{\"jsonrpc\":\"2.0\",\"id\":");
-    match id {
-        None => output.put("null"),
-        Some(Id::Number(number)) => output.integer(number),
-        Some(Id::Text(text)) => output.quoted(text),
-    }
-}
 
 /// Returns the text of the answer to a request.
 ///
 /// # Errors
 ///
 /// Memory ran out.
-pub fn reply_text(alloc: Global, id: Id<'_>, answer: &Answer) -> Result<String, AllocError> {
-    let mut output = Output::new(alloc);
-    put_id(&mut output, Some(id));
-    output.put(",\"result\":");
-    put_result(&mut output, answer);
-    output.put("}");
-    output.finish()
+pub fn reply_text(alloc: Global, id: Id<'_>, answer: &Answer) -> Result<String, AllocError>
+    ensures { IfOk result
+        (λ text. string_bytes text ≡ compact_text (reply_data id.entry answer.now)) }
+{
+    let id = id_text(alloc, Some(id))?;
+    let result = result_text(alloc, answer)?;
+    let text = format!(in alloc; "{{\"id\":{id},\"jsonrpc\":\"2.0\",\"result\":{result}}}")?;
+    Ok(text)
+}
+
+/// Returns the text of an id.
+fn id_text(alloc: Global, id: Option<Id<'_>>) -> Result<String, AllocError>
+    ensures { IfOk result (λ text. string_bytes text ≡ compact_text (id_data id.entry)) }
+{
+    let value = id_value(alloc, id)?;
+    text_of(alloc, &value)
 }
 
 /// Returns the text that refuses a request.
@@ -38,33 +42,51 @@ pub fn error_text(
     id: Option<Id<'_>>,
     code: ErrorCode,
     message: &str,
-) -> Result<String, AllocError> {
-    let mut output = Output::new(alloc);
-    put_id(&mut output, id);
-    output.put(",\"error\":{\"code\":");
-    output.integer(code.number());
-    output.put(",\"message\":");
-    output.quoted(message);
-    output.put("}}");
-    output.finish()
+) -> Result<String, AllocError>
+    ensures { IfOk result
+        (λ text. string_bytes text ≡ compact_text (error_data id.entry code message.now)) }
+{
+    let value = error_value(alloc, id, code, message)?;
+    text_of(alloc, &value)
 }
 
-/// Returns the text that publishes the diagnostics of a document.
+/// Returns the text that publishes the diagnostics of a document, with the version of its text.
 ///
 /// # Errors
 ///
 /// Memory ran out.
+#[tactic(auto, unfolding(serde_json::proofs::OnLiterals::serde_json_on_literals))]
 pub fn diagnostics_text(
     alloc: Global,
     uri: &str,
+    version: Option<i64>,
     diagnostics: &[Diagnostic],
-) -> Result<String, AllocError> {
-    let mut output = Output::new(alloc);
-    output.put("{\"jsonrpc\":\"2.0\",\"method\":\"textDocument/publishDiagnostics\"");
-    output.put(",\"params\":{\"uri\":");
-    output.quoted(uri);
-    output.put(",\"diagnostics\":");
-    put_diagnostics(&mut output, diagnostics);
-    output.put("}}");
-    output.finish()
+) -> Result<String, AllocError>
+    ensures { IfOk result (λ text.
+        string_bytes text ≡ compact_text (published_data uri.now version diagnostics.now)) }
+{
+    let params = parameters_text(alloc, uri, version, diagnostics)?;
+    let method = "textDocument/publishDiagnostics";
+    format!(in alloc; "{{\"jsonrpc\":\"2.0\",\"method\":\"{method}\",\"params\":{params}}}")
+}
+
+/// Returns the text of the parameters that tell the diagnostics of a document.
+#[tactic(auto, unfolding(serde_json::proofs::OnLiterals::serde_json_on_literals))]
+fn parameters_text(
+    alloc: Global,
+    uri: &str,
+    version: Option<i64>,
+    diagnostics: &[Diagnostic],
+) -> Result<String, AllocError>
+    ensures { IfOk result (λ text.
+        string_bytes text ≡ compact_text (parameters_data uri.now version diagnostics.now)) }
+{
+    let found = list_text(alloc, "", diagnostics)?;
+    let uri = quoted(alloc, uri)?;
+    match version {
+        Some(number) => {
+            format!(in alloc; "{{\"diagnostics\":{found},\"uri\":{uri},\"version\":{number}}}")
+        }
+        None => format!(in alloc; "{{\"diagnostics\":{found},\"uri\":{uri}}}"),
+    }
 }

@@ -1,4 +1,7 @@
 //! What is answered.
+ghost use Rattle.std.specs.Prelude.{◌≡◌};
+ghost use Rattle.editor_messages.specs.Numbers.{completion_number};
+
 use crate::symbol_kind::SymbolKind;
 use justfile_lines::Encoding;
 use text_edits::{Range, TextEdit};
@@ -69,7 +72,9 @@ pub enum CompletionKind {
 
 impl CompletionKind {
     /// Returns the number that the protocol has for the kind.
-    pub fn number(self) -> usize {
+    pub fn number(self) -> usize
+        ensures { result ≡ completion_number self }
+    {
         match self {
             CompletionKind::Function => 3,
             CompletionKind::Variable => 6,

@@ -1,4 +1,6 @@
 //! Why a request is refused.
+ghost use Rattle.std.specs.Prelude.{◌≡◌};
+ghost use Rattle.editor_messages.specs.Numbers.{error_number};
 
 /// Why a request is refused.
 #[derive(Clone, Copy)]
@@ -17,11 +19,15 @@ pub enum ErrorCode {
     ServerNotInitialized,
     /// What was asked for can't be done.
     RequestFailed,
+    /// The document's text isn't known.
+    ContentModified,
 }
 
 impl ErrorCode {
     /// Returns the number that the protocol has for the reason.
-    pub fn number(self) -> i64 {
+    pub fn number(self) -> i64
+        ensures { result ≡ error_number self }
+    {
         match self {
             ErrorCode::ParseError => -32700,
             ErrorCode::InvalidRequest => -32600,
@@ -30,6 +36,7 @@ impl ErrorCode {
             ErrorCode::InternalError => -32603,
             ErrorCode::ServerNotInitialized => -32002,
             ErrorCode::RequestFailed => -32803,
+            ErrorCode::ContentModified => -32801,
         }
     }
 }

@@ -56,12 +56,15 @@ pub enum Request<'a> {
 /// What is told.
 #[derive(Drop)]
 pub enum Notification<'a> {
-    /// The document with an address was opened, and has a text.
-    Open(&'a str, &'a str),
-    /// The document with an address was changed.
-    Change(&'a str, Vec<Change<'a>>),
+    /// The document with an address was opened, and has a text, with a version if it is named.
+    Open(&'a str, Option<i64>, &'a str),
+    /// The document with an address was changed, and has a version then if it is named.
+    Change(&'a str, Option<i64>, Vec<Change<'a>>),
     /// The document with an address was closed.
     Close(&'a str),
+    /// The document with an address was opened or changed in a way that can't be understood. Without
+    /// an address it may be any document.
+    Unclear(Option<&'a str>),
     /// The server is to exit.
     Exit,
 }

@@ -1,4 +1,6 @@
 //! The methods that are known.
+ghost use Rattle.std.specs.Prelude.{◌≡◌};
+ghost use Rattle.editor_messages.specs.Methods.{method_name, method_named};
 
 /// A method of the protocol.
 #[derive(Clone, Copy, PartialEq, Eq)]
@@ -41,36 +43,59 @@ pub enum Method {
     DocumentLink,
 }
 
-/// Each method, with its name.
-static METHODS: [(Method, &'static str); 18] = [
-    (Method::Initialize, "initialize"),
-    (Method::Shutdown, "shutdown"),
-    (Method::Exit, "exit"),
-    (Method::DidOpen, "textDocument/didOpen"),
-    (Method::DidChange, "textDocument/didChange"),
-    (Method::DidClose, "textDocument/didClose"),
-    (Method::DocumentSymbol, "textDocument/documentSymbol"),
-    (Method::FoldingRange, "textDocument/foldingRange"),
-    (Method::Formatting, "textDocument/formatting"),
-    (Method::RangeFormatting, "textDocument/rangeFormatting"),
-    (Method::Definition, "textDocument/definition"),
-    (Method::References, "textDocument/references"),
-    (Method::PrepareRename, "textDocument/prepareRename"),
-    (Method::Rename, "textDocument/rename"),
-    (Method::Hover, "textDocument/hover"),
-    (Method::Completion, "textDocument/completion"),
-    (Method::SemanticTokens, "textDocument/semanticTokens/full"),
-    (Method::DocumentLink, "textDocument/documentLink"),
+/// All methods.
+static METHODS: [Method; 18] = [
+    Method::Initialize,
+    Method::Shutdown,
+    Method::Exit,
+    Method::DidOpen,
+    Method::DidChange,
+    Method::DidClose,
+    Method::DocumentSymbol,
+    Method::FoldingRange,
+    Method::Formatting,
+    Method::RangeFormatting,
+    Method::Definition,
+    Method::References,
+    Method::PrepareRename,
+    Method::Rename,
+    Method::Hover,
+    Method::Completion,
+    Method::SemanticTokens,
+    Method::DocumentLink,
 ];
 
 impl Method {
     /// Returns the method with a name.
-    pub fn from_name(name: &str) -> Option<Method> {
-        for (method, known) in &METHODS {
-            if *known == name {
-                return Some(*method);
-            }
+    pub fn from_name(name: &str) -> Option<Method>
+        ensures { result ≡ method_named name.now }
+    {
+        METHODS.iter().copied().find(|method| method.name() == name)
+    }
+
+    /// Returns the method's name.
+    fn name(self) -> &'static str
+        ensures { result.now ≡ method_name self }
+    {
+        match self {
+            Method::Initialize => "initialize",
+            Method::Shutdown => "shutdown",
+            Method::Exit => "exit",
+            Method::DidOpen => "textDocument/didOpen",
+            Method::DidChange => "textDocument/didChange",
+            Method::DidClose => "textDocument/didClose",
+            Method::DocumentSymbol => "textDocument/documentSymbol",
+            Method::FoldingRange => "textDocument/foldingRange",
+            Method::Formatting => "textDocument/formatting",
+            Method::RangeFormatting => "textDocument/rangeFormatting",
+            Method::Definition => "textDocument/definition",
+            Method::References => "textDocument/references",
+            Method::PrepareRename => "textDocument/prepareRename",
+            Method::Rename => "textDocument/rename",
+            Method::Hover => "textDocument/hover",
+            Method::Completion => "textDocument/completion",
+            Method::SemanticTokens => "textDocument/semanticTokens/full",
+            Method::DocumentLink => "textDocument/documentLink",
         }
-        None
     }
 }

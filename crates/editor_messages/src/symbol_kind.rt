@@ -1,4 +1,6 @@
 //! Kinds of symbols.
+ghost use Rattle.std.specs.Prelude.{◌≡◌};
+ghost use Rattle.editor_messages.specs.Numbers.{symbol_number};
 
 /// What a symbol is.
 #[derive(Clone, Copy)]
@@ -15,7 +17,9 @@ pub enum SymbolKind {
 
 impl SymbolKind {
     /// Returns the number that the protocol has for the kind.
-    pub fn number(self) -> usize {
+    pub fn number(self) -> usize
+        ensures { result ≡ symbol_number self }
+    {
         match self {
             SymbolKind::Module => 2,
             SymbolKind::Property => 7,

@@ -1,1 +1,3 @@
-pub mod AfterChanges
+pub mod Kept
+pub mod Restored
+pub mod Unread

@@ -1,2 +1,4 @@
 pub mod Changed
-pub mod Opened
+pub mod Model
+pub mod Answering
+pub mod Steps

@@ -1,10 +1,11 @@
 //! The open documents.
-ghost use Rattle.std.specs.Prelude.{◌≡◌, ℕ, List, IfOk, OnErr, OnOk, string_bytes};
+ghost use Rattle.std.specs.Prelude.{◌≡◌, ℕ, List, IfOk, OnErr, OnOk, false, map, string_bytes};
 ghost use Rattle.std.specs.Option.{option_copied};
 ghost use Rattle.std.specs.BTreeMap.{IsEmpty, IsUnchanged, get_by_text};
 ghost use Rattle.editor_messages.specs.Changes.{AreApplied};
-ghost use Rattle.editor_server.specs.Changed.{AreKnown, IsKept, IsKnown, IsPut, Keeps, TellsAfter};
-ghost use Rattle.editor_server.specs.Opened.{TellsOf};
+ghost use Rattle.editor_answers.specs.Ranges.{to_tell, told};
+ghost use Rattle.editor_server.specs.Changed.{AreKnown, IsKnown, IsStored};
+ghost use Rattle.editor_server.specs.Model.{Changes, Closes, Loses, LosesAll, Restores, Stores, begins_whole, is_restored};
 
 use editor_answers::diagnostics;
 use editor_language::{Analysis, Language};
@@ -22,19 +23,31 @@ pub(crate) struct Document {
     pub(crate) analysis: Analysis,
 }
 
+/// A document, and what is told of it.
+#[derive(Drop)]
+struct Told {
+    document: Document,
+    found: Vec<Diagnostic>,
+}
+
 /// The open documents, by their addresses.
 #[derive(Drop)]
 pub(crate) struct Documents {
     list: BTreeMap<String, Document>,
+    /// Whether a text was lost. Then a document that isn't in the list may be open, with a text that
+    /// isn't known.
+    pub(crate) has_lost: bool,
 }
 
 impl Documents {
     /// Returns no documents.
     pub(crate) fn new(alloc: Global) -> Self
-        ensures { IsEmpty result.list }
+        ensures empty { IsEmpty result.list }
+        ensures lost { result.has_lost ≡ false }
     {
         Documents {
             list: BTreeMap::new(alloc),
+            has_lost: false,
         }
     }
 
@@ -49,7 +62,8 @@ impl Documents {
     ///
     /// # Errors
     ///
-    /// Memory ran out. The document is as it was.
+    /// Memory ran out. The document's text is lost.
+    #[tactic(auto, using(crate::proofs::Kept::known_loses, crate::proofs::Kept::known_stored))]
     pub(crate) fn open<L: Language>(
         &mut self,
         alloc: Global,
@@ -58,19 +72,40 @@ impl Documents {
         uri: &str,
         text: &str,
     ) -> Result<Vec<Diagnostic>, AllocError>
-        ensures tells { IfOk result (λ found. TellsOf L.knows encoding text.now found.items) }
-        ensures known { Keeps L.knows self.old.list self.new.list }
+        requires { AreKnown L.knows self.old.list }
+        ensures ok { IfOk result (λ found. Stores L.knows encoding uri.now text.now
+            self.old self.new found.items) }
+        ensures failed { OnErr result (Loses uri.now self.old self.new) }
+        ensures known { AreKnown L.knows self.new.list }
     {
-        let analysis = language.analysis(alloc, text)?;
-        let found = diagnostics(alloc, encoding, text, &analysis.problems)?;
-        let text = String::from_str(alloc, text)?;
-        self.insert(alloc, uri, Document { text, analysis })?;
-        Ok(found)
+        match opened_document(alloc, language, encoding, text) {
+            Ok(opened) => self.store(alloc, uri, opened),
+            Err(_) => {
+                self.lose(uri);
+                Err(AllocError)
+            }
+        }
+    }
+
+    /// Stores a document. Returns what is told of it.
+    fn store(&mut self, alloc: Global, uri: &str, told: Told) -> Result<Vec<Diagnostic>, AllocError>
+        ensures put { OnOk result (IsStored uri.now told.document self.old self.new) }
+        ensures same { IfOk result (λ found. found ≡ told.found) }
+        ensures failed { OnErr result (Loses uri.now self.old self.new) }
+    {
+        let Told { document, found } = told;
+        match self.insert(alloc, uri, document) {
+            Ok(()) => Ok(found),
+            Err(_) => {
+                self.lose(uri);
+                Err(AllocError)
+            }
+        }
     }
 
     /// Adds a document, or puts it in the place of one.
     fn insert(&mut self, alloc: Global, uri: &str, document: Document) -> Result<(), AllocError>
-        ensures put { OnOk result (IsPut uri.now document self.old.list self.new.list) }
+        ensures put { OnOk result (IsStored uri.now document self.old self.new) }
         ensures unchanged { OnErr result (IsUnchanged self.old.list self.new.list) }
     {
         let uri = uri.to_string(alloc)?;
@@ -80,11 +115,13 @@ impl Documents {
         }
     }
 
-    /// Changes a document, if it is open. Returns what is wrong in it then.
+    /// Changes a document, if its text is known or the changes make it known. Returns what is wrong in
+    /// it then.
     ///
     /// # Errors
     ///
-    /// Memory ran out. The document is as it was.
+    /// Memory ran out. The document's text is lost.
+    #[tactic(auto, using(crate::proofs::Kept::known_after, crate::proofs::Kept::known_loses, crate::proofs::Restored::unheld))]
     pub(crate) fn change<L: Language>(
         &mut self,
         alloc: Global,
@@ -93,27 +130,117 @@ impl Documents {
         uri: &str,
         changes: &[Change<'_>],
     ) -> Result<Option<Vec<Diagnostic>>, AllocError>
-        ensures tells { AreKnown L.knows self.old.list → IfOk result (TellsAfter L.knows encoding
-            changes.now (get_by_text self.old.list uri.now)) }
-        ensures known { Keeps L.knows self.old.list self.new.list }
+        requires { AreKnown L.knows self.old.list }
+        ensures ok { IfOk result (Changes L.knows encoding uri.now changes.now
+            (get_by_text self.old.list uri.now) self.old self.new) }
+        ensures failed { OnErr result (Loses uri.now self.old self.new) }
+        ensures known { AreKnown L.knows self.new.list }
     {
         let Some(document) = self.get(uri) else {
-            return Ok(None);
+            return self.restore(alloc, language, encoding, uri, changes);
         };
-        let document = changed_document(alloc, language, encoding, document, changes)?;
-        let problems = &document.analysis.problems;
-        let found = diagnostics(alloc, encoding, document.text.as_str(), problems)?;
-        self.insert(alloc, uri, document)?;
-        Ok(Some(found))
+        match changed_document(alloc, language, encoding, document, changes) {
+            Ok(changed) => Ok(Some(self.store(alloc, uri, changed)?)),
+            Err(_) => {
+                self.lose(uri);
+                Err(AllocError)
+            }
+        }
+    }
+
+    /// Gives a document whose text isn't known one again, if a text was lost and the changes begin
+    /// with a whole one. Returns what is wrong in it then.
+    ///
+    /// # Errors
+    ///
+    /// Memory ran out. The document's text is lost.
+    #[tactic(auto, using(crate::proofs::Kept::known_loses, crate::proofs::Restored::restored, crate::proofs::Restored::unrestored))]
+    fn restore<L: Language>(
+        &mut self,
+        alloc: Global,
+        language: &L,
+        encoding: Encoding,
+        uri: &str,
+        changes: &[Change<'_>],
+    ) -> Result<Option<Vec<Diagnostic>>, AllocError>
+        requires { AreKnown L.knows self.old.list }
+        ensures ok { IfOk result (Restores L.knows encoding uri.now changes.now
+            (is_restored self.old.has_lost changes.now) self.old self.new) }
+        ensures failed { OnErr result (Loses uri.now self.old self.new) }
+        ensures known { AreKnown L.knows self.new.list }
+    {
+        if !self.is_restored(changes) {
+            return Ok(None);
+        }
+        match changed_text(alloc, encoding, "", changes) {
+            Ok(text) => Ok(Some(self.open(alloc, language, encoding, uri, text.as_str())?)),
+            Err(_) => {
+                self.lose(uri);
+                Err(AllocError)
+            }
+        }
+    }
+
+    /// Whether changes make the text of a document known that isn't held.
+    fn is_restored(&self, changes: &[Change<'_>]) -> bool
+        ensures { result ≡ is_restored self.now.has_lost changes.now }
+    {
+        self.has_lost && begins_whole(changes)
     }
 
     /// Closes a document.
     pub(crate) fn close(&mut self, uri: &str)
-        ensures { (q : List ℕ) → IsKept (get_by_text self.old.list q)
-            (get_by_text self.new.list q) }
+        ensures { Closes uri.now self.old self.new }
     {
         let _ = self.list.remove(uri);
     }
+
+    /// Forgets the text of a document, since that which the editor has isn't known.
+    pub(crate) fn lose(&mut self, uri: &str)
+        ensures { Loses uri.now self.old self.new }
+    {
+        self.close(uri);
+        self.has_lost = true;
+    }
+
+    /// Forgets all texts, since those which the editor has aren't known.
+    pub(crate) fn lose_all(&mut self, alloc: Global)
+        ensures { LosesAll self.new }
+    {
+        self.list = BTreeMap::new(alloc);
+        self.has_lost = true;
+    }
+}
+
+/// Whether changes begin with a whole text.
+fn begins_whole(changes: &[Change<'_>]) -> bool
+    ensures { result ≡ begins_whole changes.now }
+{
+    match changes {
+        [Change::Whole(_), ..] => true,
+        _ => false,
+    }
+}
+
+/// Returns a document with a text.
+fn opened_document<L: Language>(
+    alloc: Global,
+    language: &L,
+    encoding: Encoding,
+    text: &str,
+) -> Result<Told, AllocError>
+    ensures text { IfOk result (λ told. string_bytes told.document.text ≡ text.now) }
+    ensures known { IfOk result (λ told. L.knows text.now told.document.analysis) }
+    ensures tells { IfOk result (λ opened. map told opened.found.items
+        ≡ map (to_tell encoding text.now) opened.document.analysis.problems.items) }
+{
+    let analysis = language.analysis(alloc, text)?;
+    let found = diagnostics(alloc, encoding, text, &analysis.problems)?;
+    let text = String::from_str(alloc, text)?;
+    Ok(Told {
+        document: Document { text, analysis },
+        found,
+    })
 }
 
 /// Returns a document after changes.
@@ -123,13 +250,21 @@ fn changed_document<L: Language>(
     encoding: Encoding,
     document: &Document,
     changes: &[Change<'_>],
-) -> Result<Document, AllocError>
+) -> Result<Told, AllocError>
+    requires { IsKnown L.knows document.now }
     ensures applied { IfOk result (λ changed. AreApplied encoding
-        (string_bytes document.now.text) changes.now (string_bytes changed.text)) }
-    ensures known { IsKnown L.knows document.now → IfOk result (IsKnown L.knows) }
+        (string_bytes document.now.text) changes.now (string_bytes changed.document.text)) }
+    ensures known { IfOk result (λ changed. IsKnown L.knows changed.document) }
+    ensures tells { IfOk result (λ changed. map told changed.found.items
+        ≡ map (to_tell encoding (string_bytes changed.document.text))
+        changed.document.analysis.problems.items) }
 {
     let old = document.text.as_str();
     let text = changed_text(alloc, encoding, old, changes)?;
     let analysis = language.analysis_after(alloc, old, &document.analysis, text.as_str())?;
-    Ok(Document { text, analysis })
+    let found = diagnostics(alloc, encoding, text.as_str(), &analysis.problems)?;
+    Ok(Told {
+        document: Document { text, analysis },
+        found,
+    })
 }

@@ -2,8 +2,11 @@
 #![tactic(auto)]
 
 mod documents;
+mod reaction;
+mod sent;
 mod server;
 mod stream;
 
-pub use server::{Reaction, Server};
+pub use sent::Sent;
+pub use server::Server;
 pub use stream::serve;

@@ -1,5 +1,8 @@
 //! Serving an editor over streams.
-use crate::server::{Reaction, Server};
+ghost use Rattle.editor_server.specs.Changed.{AreKnown};
+
+use crate::sent::Sent;
+use crate::server::Server;
 use editor_json::error_text;
 use editor_language::Language;
 use editor_messages::ErrorCode;
@@ -19,6 +22,7 @@ const CUT_OFF: u8 = 1;
 /// # Errors
 ///
 /// Reading or writing failed.
+#[tactic(auto, using(crate::proofs::Kept::known_empty))]
 pub fn serve<L: Language, R: BufRead, W: Write>(
     alloc: Global,
     language: &L,
@@ -36,20 +40,26 @@ pub fn serve<L: Language, R: BufRead, W: Write>(
 }
 
 /// Answers what was received. Returns the exit status if the server is to exit.
+#[tactic(auto, using(crate::proofs::Unread::known_unread))]
 fn answer<L: Language, W: Write>(
     alloc: Global,
     language: &L,
     server: &mut Server,
     received: Received,
     writer: &mut W,
-) -> io::Result<Option<u8>> {
+) -> io::Result<Option<u8>>
+    requires { AreKnown L.knows server.old.documents.list }
+    ensures { AreKnown L.knows server.new.documents.list }
+{
     match received {
         Received::End => Ok(Some(CUT_OFF)),
         Received::WrongHeader => {
+            server.lose_all(alloc);
             let message = "the header names no length";
             refuse(alloc, ErrorCode::InvalidRequest, message, writer)
         }
         Received::TooLong => {
+            server.lose_all(alloc);
             let message = "the message is too long";
             refuse(alloc, ErrorCode::InvalidRequest, message, writer)
         }
@@ -64,11 +74,14 @@ fn react<L: Language, W: Write>(
     server: &mut Server,
     body: &[u8],
     writer: &mut W,
-) -> io::Result<Option<u8>> {
+) -> io::Result<Option<u8>>
+    requires { AreKnown L.knows server.old.documents.list }
+    ensures { AreKnown L.knows server.new.documents.list }
+{
     match server.react(alloc, language, body) {
-        Ok(Reaction::Silent) => Ok(None),
-        Ok(Reaction::Send(text)) => send(alloc, text.as_str(), writer),
-        Ok(Reaction::Exit(status)) => Ok(Some(status)),
+        Ok(Sent::Nothing) => Ok(None),
+        Ok(Sent::Text(text)) => send(alloc, text.as_str(), writer),
+        Ok(Sent::Exit(status)) => Ok(Some(status)),
         Err(_) => refuse(alloc, ErrorCode::InternalError, "memory ran out", writer),
     }
 }

@@ -9,25 +9,26 @@ use Rattle.message_stream.specs.declared.field.TheConstants.{MOST}
 abbrev pub ends_header : List ℕ → Bool
 ends_header line = bytes_eq line (codes "\r\n") || bytes_eq line (codes "\n")
 
-abbrev pub isnt_colon : ℕ → Bool
-isnt_colon c = not (c == 58)
-
-abbrev pub isnt_brace : ℕ → Bool
-isnt_brace c = not (c == 125)
+abbrev pub isnt : (byte c : ℕ) → Bool
+isnt byte c = not (c == byte)
 
 abbrev pub is_digit : ℕ → Bool
 is_digit c = nat_le 48 c && nat_le c 57
 
--- what stands before the first colon of a line, and what after it
+-- what stands after the last byte that is this one: all, if there is none
+abbrev pub after_last : (byte : ℕ) → List ℕ → List ℕ
+after_last byte text = drop (length text - suffix_len (isnt byte) text) text
+
+-- what stands before the last colon of a line, and what after it
 abbrev pub name_in : List ℕ → List ℕ
-name_in line = take (prefix_len isnt_colon line) line
+name_in line = take (length line - suffix_len (isnt 58) line - 1) line
 
 abbrev pub value_in : List ℕ → List ℕ
-value_in line = drop (min (prefix_len isnt_colon line + 1) (length line)) line
+value_in line = after_last 58 line
 
--- A name without the end of a body that its message's header told too short, so that it was left before this one: that ends with a brace.
+-- A name without a body that was left before it, since its message's header named no length, or one too short: that ends with a brace.
 abbrev pub own_name : List ℕ → List ℕ
-own_name name = drop (length name - suffix_len isnt_brace name) name
+own_name name = after_last 125 name
 
 abbrev pub is_length_name : List ℕ → Bool
 is_length_name name = str_eq_ignore_ascii_case name (codes "content-length")

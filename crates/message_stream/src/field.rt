@@ -1,7 +1,7 @@
 //! The lines of a header.
 ghost use Rattle.std.specs.Prelude.{◌≡◌, ◌+◌, ◌≤◌, length};
-ghost use Rattle.std.specs.List.{list_all, prefix_len, suffix_len};
-ghost use Rattle.message_stream.specs.Field.{AreDigits, are_digits, ends_header, is_digit, is_length_name, isnt_brace, isnt_colon, length_in, number, number_of, own_name, trimmed};
+ghost use Rattle.std.specs.List.{list_all, suffix_len};
+ghost use Rattle.message_stream.specs.Field.{AreDigits, are_digits, ends_header, is_digit, is_length_name, isnt, length_in, number, number_of, own_name, trimmed};
 
 /// The name of the field that names a length, in any case.
 const NAME: &[u8] = b"content-length";
@@ -26,9 +26,9 @@ pub(crate) fn is_last(line: &[u8]) -> bool
 pub(crate) fn length_in(line: &[u8]) -> Option<usize>
     ensures { result ≡ length_in line.now }
 {
-    let colon = colon_in(line);
-    let (name, _) = line.split_at(colon);
-    let (_, value) = line.split_at((colon + 1).min(line.len()));
+    let start = after_last(b':', line);
+    let (name, _) = line.split_at(start.saturating_sub(1));
+    let (_, value) = line.split_at(start);
     if names_length(name) {
         number_in(value)
     } else {
@@ -36,33 +36,21 @@ pub(crate) fn length_in(line: &[u8]) -> Option<usize>
     }
 }
 
-/// Returns where the first colon of a line is, or its end.
-fn colon_in(line: &[u8]) -> usize
-    ensures is { result ≡ prefix_len isnt_colon line.now }
-    ensures bound { result ≤ length line.now }
-{
-    let mut at = 0;
-    'bytes: while at < line.len() && line[at] != b':' {
-        at += 1;
-    }
-    at
-}
-
-/// Whether a field has the name of that which names a length. The end of a body may stand before it.
+/// Whether a field has the name of that which names a length. A body may stand before it.
 fn names_length(name: &[u8]) -> bool
     ensures { result ≡ is_length_name (own_name name.now) }
 {
-    let (_, own) = name.split_at(after_brace(name));
+    let (_, own) = name.split_at(after_last(b'}', name));
     own.eq_ignore_ascii_case(NAME)
 }
 
-/// Returns where the text after the last closing brace begins.
-fn after_brace(name: &[u8]) -> usize
-    ensures is { result + suffix_len isnt_brace name.now ≡ length name.now }
-    ensures bound { result ≤ length name.now }
+/// Returns where the text after the last byte that is this one begins.
+fn after_last(byte: u8, text: &[u8]) -> usize
+    ensures is { result + suffix_len (isnt byte) text.now ≡ length text.now }
+    ensures bound { result ≤ length text.now }
 {
-    let mut start = name.len();
-    'bytes: while start > 0 && name[start - 1] != b'}' {
+    let mut start = text.len();
+    'bytes: while start > 0 && text[start - 1] != byte {
         start -= 1;
     }
     start

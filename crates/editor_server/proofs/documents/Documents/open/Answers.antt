@@ -1,10 +1,7 @@
-use Rattle.std.proofs.Common.{◌∙◌, ap, map}
-use Rattle.editor_answers.specs.Ranges.{to_tell}
+use Rattle.editor_server.proofs.Kept.{stored}
 use Rattle.editor_server.proofs.documents.Documents.open.Goals as goal
 
-pub returns-clause-tells : goal.returns-clause-tells
-returns-clause-tells g c = record {
-  analysis = c.in_ok-analysis.analysis;
-  is_known = c.in_ok-analysis.ensures;
-  tells = c.in_ok-found.ensures ∙ ap (map (to_tell c.args.encoding c.args.text.now)) c.deref.ensures.value;
-}
+pub returns-in-Ok-clause-ok : goal.returns-in-Ok-clause-ok
+returns-in-Ok-clause-ok g c =
+    stored g.L.Language.knows c.args.encoding c.args.uri.now c.args.self.now c.store.new.self c.in-Ok.opened.document c.in-Ok.opened.found c.store.result c.args.text.now
+    c.in-Ok.ensures.text c.in-Ok.ensures.known c.in-Ok.ensures.tells c.store.ensures.put c.store.ensures.same

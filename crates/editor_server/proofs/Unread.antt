@@ -1,0 +1,36 @@
+-- What is known and answered after a body that is no JSON, and after a value.
+use Rattle.std.proofs.Common.{◌≡◌, ℕ, List, Option, None, Result, Ok, Err, IfOk}
+use Rattle.serde_json.specs.Data.{Data}
+use Rattle.serde_json.specs.declared.value.Value.{Value}
+use Rattle.editor_messages.specs.declared.error_code.ErrorCode.TheVariants.{ParseError}
+use Rattle.editor_messages.specs.declared.message.Message.{Message}
+use Rattle.editor_language.specs.declared.mention.Mention.{Mention}
+use Rattle.editor_language.specs.declared.parts.Analysis.{Analysis}
+use Rattle.editor_language.specs.declared.parts.FileLink.{FileLink}
+use Rattle.editor_json.specs.Received.{IsParsed}
+use Rattle.editor_json.specs.Requests.{said_by, said_in}
+use Rattle.editor_server.proofs.Kept.{known_empty}
+use Rattle.editor_server.specs.Answering.{Answered, Handles, HandlesParsed, IsSent, IsUnread, LosesTexts}
+use Rattle.editor_server.specs.Changed.{AreKnown}
+use Rattle.editor_server.specs.Steps.{IsRefusal, Reacts}
+use Rattle.editor_server.specs.declared.reaction.Reaction.{Reaction}
+use Rattle.editor_server.specs.declared.sent.Sent.{Sent}
+use Rattle.editor_server.specs.declared.server.Server.{Server}
+
+pub known_unread : (knows : List ℕ → Analysis → Type 0) (old new : Server) → LosesTexts old new → AreKnown knows new.documents.list
+known_unread knows old new h = known_empty knows new.documents.list h.lost.none
+
+pub unread : {E : Type 0} (old new : Server) (reaction : Reaction) (r : Result Sent E) → LosesTexts old new → IsRefusal None ParseError reaction → IfOk r (IsSent reaction) → IfOk r (IsUnread old new)
+unread old new reaction (Ok done) loses refuses h = (loses, (reaction, refuses, h))
+unread old new reaction (Err e) loses refuses h = tt
+
+module _ (knows : List ℕ → Analysis → Type 0) (mentioned : List ℕ → Analysis → List Mention → Type 0) (formats : List ℕ → List ℕ → Type 0) (names : List ℕ → Type 0) (linked : Option (List ℕ) → List ℕ → Analysis → List FileLink → Type 0) (old new : Server) where
+  pub handled : {E : Type 0} (d : Data) (message : Message) (reaction : Reaction) (r : Result Sent E) → said_by message ≡ said_in d → Reacts knows mentioned formats names linked message old new reaction → IfOk r (IsSent reaction)
+      → IfOk r (Handles knows mentioned formats names linked d old new)
+  handled d message reaction (Ok done) says reacts h = (message, reaction, says, reacts, h)
+  handled d message reaction (Err e) says reacts h = tt
+
+  pub answered : {E : Type 0} (body : List ℕ) (value : Option Value) (r : Result Sent E) → IsParsed body value → IfOk r (HandlesParsed knows mentioned formats names linked value old new)
+      → IfOk r (Answered knows mentioned formats names linked body old new)
+  answered body value (Ok done) parsed h = (value, parsed, h)
+  answered body value (Err e) parsed h = tt
