@@ -64,7 +64,7 @@ cut_like (t ∷ []) e f rest l levels line c = cut_by t t e f rest rest refl (le
 cut_like (t ∷ w ∷ p) e f rest l levels line c =
     cut_like (w ∷ p) (t ∷ e) (t ∷ f) rest (omega arith) (levels_like t.kind t t (mode e) (mode f) refl levels) (ap (line_with t.kind) line) c
 
-onto_reverse : (p e : List Tok) → reverse p ++ e ≡ onto e p
+pub onto_reverse : (p e : List Tok) → reverse p ++ e ≡ onto e p
 onto_reverse [] e = refl
 onto_reverse (t ∷ p) e = reverse_more t p e ∙ onto_reverse p (t ∷ e)
 

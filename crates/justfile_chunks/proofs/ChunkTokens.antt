@@ -29,7 +29,7 @@ use Rattle.justfile_chunks_grammar.proofs.Colons.{IndentsHaveColons, NeedsColon,
 use Rattle.justfile_chunks.proofs.SameModes.{HaveColon, NoneIsEof, marks, mode_past}
 use Rattle.justfile_chunks.proofs.SameNext.{SameMode}
 use Rattle.justfile_chunks.proofs.SplitRuns.{in_order, runs_of, split_run, split_utf8}
-use Rattle.justfile_chunks.proofs.TidyModes.{EndsInFeed, LevelFact, Tidy, feed_of, fed_run}
+use Rattle.justfile_chunks.proofs.TidyModes.{EndsInFeed, Fed, LevelFact, Tidy, feed_of, fed_run}
 
 -- ---- parts
 
@@ -155,62 +155,87 @@ parts_some Parts.last = omega arith
 parts_some (Parts.cut c rest) = omega arith
 parts_some (Parts.uncut u rest) = omega arith
 
+cut_goes_on : (e rest : List Tok) → IsCut e rest → next_kind rest ≢ Some kinds.Eof
+cut_goes_on [] rest c = absurd c
+cut_goes_on (t ∷ e) rest c = c.goes_on
+
+cut_outside : (e rest : List Tok) → IsCut e rest → (mode e).levels ≡ []
+cut_outside [] rest c = absurd c
+cut_outside (t ∷ e) rest c = c.outside
+
+-- tokens up to a cut, and those after it
+pub record AfterCut (earlier part rest : List Tok) : Type 0 where
+  pub some : 0 < length (text_of rest)
+  pub utf8 : IsUtf8 (text_of part ++ text_of rest)
+  pub run : Runs (mode earlier) (text_of part ++ text_of rest) (part ++ rest)
+  pub no_eof : NoneIsEof part
+  pub fed : Fed (text_of part)
+  pub ended : SameMode (mode_past (mode earlier) part) start_mode
+  pub bytes : 0 < length (text_of part)
+  pub later : Later (onto earlier part) rest
+
+pub after_cut : (earlier later part rest : List Tok) → Later earlier later → later ≡ part ++ rest → 0 < length part → 0 < length rest
+    → IsCut (onto earlier part) rest
+    → AfterCut earlier part rest
+after_cut earlier later part rest h is begun l cut =
+    let text : text_of later ≡ text_of part ++ text_of rest = ap text_of is ∙ flat_map-append lexeme part rest in
+    let utf8 : IsUtf8 (text_of part ++ text_of rest) = subst IsUtf8 text h.utf8 in
+    let run : Runs (mode earlier) (text_of part ++ text_of rest) (part ++ rest) =
+    (subst (λ x. Runs (mode earlier) x (part ++ rest)) text (subst (λ ts. Runs (mode earlier) (text_of later) ts) is h.run)) in
+    let ends : EndsOnce (part ++ rest) = subst EndsOnce is h.ends in
+    let two = split_run (mode earlier) (text_of part ++ text_of rest) part rest run in
+    let following : two.following ≡ text_of rest = sym (same_front (text_of part) (text_of rest) (text_of part) two.following two.rest_is refl).1 in
+    let rest_run : Runs (mode_past (mode earlier) part) (text_of rest) rest = subst
+    (λ x. Runs (mode_past (mode earlier) part) x rest) following two.run in
+    let rest_utf8 : IsUtf8 (text_of rest) = subst IsUtf8 following (split_utf8 part rest (mode earlier) (text_of part ++ text_of rest) utf8 run) in
+    let some : 0 < length (text_of rest) = some_text rest (mode_past (mode earlier) part) (text_of rest) (rest_of EndsOnce (λ t u ts h. h.1) part rest l ends)
+    (cut_goes_on (onto earlier part) rest cut)
+    (sym (ap (λ (m : Mode). m.levels) (onto_mode part earlier)) ∙ cut_outside (onto earlier part) rest cut) rest_utf8 rest_run in
+    let same : SameMode (mode (onto earlier part)) start_mode = at_cut part earlier rest (text_of rest) begun
+    (same_clear (mode earlier) h.same) run some cut in
+    let past : SameMode (mode_past (mode earlier) part) start_mode = subst (λ m. SameMode m start_mode) (onto_mode part earlier) same in
+    let no_eof = none_ends part rest l ends in
+    record {
+      some = some;
+      utf8 = utf8;
+      run = run;
+      no_eof = no_eof;
+      fed = fed_run part (mode earlier) (text_of part ++ text_of rest) utf8 two.first past.line_start;
+      ended = past;
+      bytes = some_bytes part rest (mode earlier) (text_of part ++ text_of rest) no_eof begun h.same.levels utf8 run;
+      later = record {
+        same = same;
+        utf8 = rest_utf8;
+        run = subst (λ m. Runs m (text_of rest) rest) (sym (onto_mode part earlier)) rest_run;
+        ends = rest_of EndsOnce (λ t u ts h. h.1) part rest l ends;
+        empty = rest_of EndsEmpty (λ t u ts h. h) part rest l (subst EndsEmpty is h.empty);
+      };
+    }
+
 pub next_part : (earlier later part : List Tok) (parts : List (List Tok)) → Later earlier later → (s : Split earlier later part parts)
     → NextPart earlier part s.rest
 next_part earlier later part parts h s =
     let l = parts_some s.others in
-    let text : text_of later ≡ text_of part ++ text_of s.rest = ap text_of s.is ∙ flat_map-append lexeme part s.rest in
-    let utf8 : IsUtf8 (text_of part ++ text_of s.rest) = subst IsUtf8 text h.utf8 in
-    let run : Runs (mode earlier) (text_of part ++ text_of s.rest) (part ++ s.rest) =
-    (subst (λ x. Runs (mode earlier) x (part ++ s.rest)) text (subst (λ ts. Runs (mode earlier) (text_of later) ts) s.is h.run)) in
-    let ends : EndsOnce (part ++ s.rest) = subst EndsOnce s.is h.ends in
-    let two = split_run (mode earlier) (text_of part ++ text_of s.rest) part s.rest run in
-    let following : two.following ≡ text_of s.rest = sym (same_front (text_of part) (text_of s.rest) (text_of part) two.following two.rest_is refl).1 in
-    let rest_run : Runs (mode_past (mode earlier) part) (text_of s.rest) s.rest = subst
-    (λ x. Runs (mode_past (mode earlier) part) x s.rest) following two.run in
-    let rest_utf8 : IsUtf8 (text_of s.rest) = subst IsUtf8 following (split_utf8 part s.rest (mode earlier) (text_of part ++ text_of s.rest) utf8 run) in
-    let some : 0 < length (text_of s.rest) = some_text s.rest (mode_past (mode earlier) part) (text_of s.rest) (rest_of EndsOnce (λ t u ts h. h.1) part s.rest l ends)
-    (goes_on (onto earlier part) s.rest s.cut)
-    (sym (ap (λ (m : Mode). m.levels) (onto_mode part earlier)) ∙ outside (onto earlier part) s.rest s.cut) rest_utf8 rest_run in
-    let same : SameMode (mode (onto earlier part)) start_mode = at_cut part earlier s.rest (text_of s.rest) s.some
-    (same_clear (mode earlier) h.same) run some s.cut in
-    let past : SameMode (mode_past (mode earlier) part) start_mode = subst (λ m. SameMode m start_mode) (onto_mode part earlier) same in
-    let no_eof = none_ends part s.rest l ends in
-    let bytes = some_bytes part s.rest (mode earlier) (text_of part ++ text_of s.rest) no_eof s.some h.same.levels utf8 run in
-    let fed = fed_run part (mode earlier) (text_of part ++ text_of s.rest) utf8 two.first past.line_start in
+    let a = after_cut earlier later part s.rest h s.is s.some l s.cut in
     record {
-      some = some;
+      some = a.some;
       more = l;
       is_part = record {
         tidy = start_tidy earlier h.same;
         same = h.same;
         colons = no_colon (mode earlier) start_mode;
-        no_eof = no_eof;
+        no_eof = a.no_eof;
         uncut = s.uncut;
-        fed = fed;
-        utf8 = utf8;
-        run = run;
+        fed = a.fed;
+        utf8 = a.utf8;
+        run = a.run;
       };
-      ended = past;
-      bytes = bytes;
-      feeds = feed_of (text_of part) fed bytes;
-      goes_on = goes_on (onto earlier part) s.rest s.cut;
-      later = record {
-        same = same;
-        utf8 = rest_utf8;
-        run = subst (λ m. Runs m (text_of s.rest) s.rest) (sym (onto_mode part earlier)) rest_run;
-        ends = rest_of EndsOnce (λ t u ts h. h.1) part s.rest l ends;
-        empty = rest_of EndsEmpty (λ t u ts h. h) part s.rest l (subst EndsEmpty s.is h.empty);
-      };
+      ended = a.ended;
+      bytes = a.bytes;
+      feeds = feed_of (text_of part) a.fed a.bytes;
+      goes_on = cut_goes_on (onto earlier part) s.rest s.cut;
+      later = a.later;
     }
-  where
-    goes_on : (e rest : List Tok) → IsCut e rest → next_kind rest ≢ Some kinds.Eof
-    goes_on [] rest c = absurd c
-    goes_on (t ∷ e) rest c = c.goes_on
-
-    outside : (e rest : List Tok) → IsCut e rest → (mode e).levels ≡ []
-    outside [] rest c = absurd c
-    outside (t ∷ e) rest c = c.outside
 
 -- ---- the tokens of a text
 
@@ -292,7 +317,7 @@ pub marks_toks : (text : List ℕ) (offset : ℕ) (ms : List Mark) → marks (to
 marks_toks text offset [] = refl
 marks_toks text offset (m ∷ ms) = ap (λ x. m ∷ x) (marks_toks text (offset + length m.lexeme) ms)
 
-feed_first : (x : List ℕ) → next start_mode (10 ∷ x) ≡ Ok (kinds.Eol, 1)
+pub feed_first : (x : List ℕ) → next start_mode (10 ∷ x) ≡ Ok (kinds.Eol, 1)
 unfolding next layout token_within_line token_by_class class_of
 feed_first x = refl
 

@@ -35,10 +35,14 @@ EndFact m kinds.Dedent = ⊥
 EndFact m kinds.Indent = ⊥
 EndFact m _ = Unit {0}
 
-abbrev IsInside : TokenKind → Type 0
-IsInside kinds.Eol = ⊥
+-- tokens within a line, other than comments and whitespace
+abbrev pub IsInside : TokenKind → Type 0
+IsInside kinds.Comment = ⊥
 IsInside kinds.Dedent = ⊥
+IsInside kinds.Eof = ⊥
+IsInside kinds.Eol = ⊥
 IsInside kinds.Indent = ⊥
+IsInside kinds.Whitespace = ⊥
 IsInside _ = Unit {0}
 
 inside_fact : (k : TokenKind) (m : Mode) → IsInside k → EndFact m k
@@ -47,6 +51,93 @@ inside_fact kinds.Dedent m h = absurd h
 inside_fact kinds.Indent m h = absurd h
 inside_fact _ m h = tt
 
+abbrev pub InsideBy : NextToken → Type 0
+InsideBy (Ok x) = IsInside x.0
+InsideBy (Err r) = Unit {0}
+
+pub record Inside (found : NextToken) : Type 0 where
+  pub inside : InsideBy found
+
+-- a byte of this class begins such a token, or none
+abbrev pub BeginsInside : ByteClass → Type 0
+BeginsInside classes.Blank = ⊥
+BeginsInside classes.LineFeed = ⊥
+BeginsInside classes.CarriageReturn = ⊥
+BeginsInside classes.Other = ⊥
+BeginsInside _ = Unit {0}
+
+module _ (m : Mode) (rest : List ℕ) where
+  one : {k : TokenKind} {n : ℕ} → IsInside k → Inside (Ok (k, n))
+  one h = record { inside = h }
+
+  none : {r : LexicalError} → Inside (Err r)
+  none = record { inside = tt }
+
+  choice : (b : Bool) {x y : NextToken} → Inside x → Inside y → Inside (cond b x y)
+  choice true p q = p
+  choice false p q = q
+
+  twice_inside : (b : ℕ) (k : TokenKind) → IsInside k → Inside (doubled_token b k rest)
+  twice_inside b k h = choice (eqb (get_or rest 1 0) b) (one h) (choice (eqb (length (drop 1 rest)) 0) none none)
+
+  fixed_inside : (b : ℕ) → Inside (fixed_token b rest)
+  unfolding fixed_token
+  fixed_inside b =
+      let c = get_or rest 1 0 in
+      choice (eqb b 33) (choice (eqb c 61) (one tt) (choice (eqb c 126) (one tt) (one tt)))
+      (choice (eqb b 38) (twice_inside 38 kinds.AmpersandAmpersand tt)
+      (choice (eqb b 124) (twice_inside 124 kinds.BarBar tt)
+      (choice (eqb b 43) (choice (eqb c 43) (one tt) (one tt))
+      (choice (eqb b 61) (choice (eqb c 61) (one tt) (choice (eqb c 126) (one tt) (one tt)))
+      (choice (eqb b 58) (choice (eqb c 61) (one tt) (choice (eqb c 58) (one tt) (one tt)))
+      (choice (eqb b 36) (one tt)
+      (choice (eqb b 42) (one tt)
+      (choice (eqb b 44) (one tt)
+      (choice (eqb b 47) (one tt)
+      (choice (eqb b 63) (one tt)
+      (choice (eqb b 64) (one tt) none)))))))))))
+
+  part_inside : (k : StringKind) (format : Bool) (opener : ℕ) (more whole : TokenKind) → IsInside more → IsInside whole
+      → Inside (literal_part k format opener more whole rest)
+  unfolding literal_part
+  part_inside k format opener more whole e f =
+      choice (eqb (raw_len (raw_texts.Literal k format) (drop opener rest)) (length (drop opener rest))) none
+      (choice (format && is_interpolation_start (drop (raw_len (raw_texts.Literal k format) (drop opener rest)) (drop opener rest))) (one e) (one f))
+
+  literal_inside : Inside (literal_token m rest)
+  literal_inside = part_inside _ _ _ kinds.FormatStringStart _ tt (whole (kind_of rest).delimiter)
+    where
+      whole : (d : StringDelimiter) → IsInside (token_kind_of d)
+      whole delimiters.Backtick = tt
+      whole delimiters.QuoteDouble = tt
+      whole delimiters.QuoteSingle = tt
+
+  close_inside : (o : Option OpenDelimiter) (d : Delimiter) (k : TokenKind) → IsInside k → Inside (closing_delimiter o d k)
+  close_inside None d k h = none
+  close_inside (Some o) d k h = choice (is_same o.delimiter d) (one h) none
+
+  brace_inside : (f : Option StringKind) (o : Option OpenDelimiter) → Inside (brace_by f o rest)
+  brace_inside None o = close_inside o Brace kinds.BraceR tt
+  brace_inside (Some k) o = choice (is_interpolation_end rest) (part_inside k true 2 kinds.FormatStringContinue kinds.FormatStringEnd tt tt)
+      (close_inside o Brace kinds.BraceR tt)
+
+  pub class_inside : (k : ByteClass) → BeginsInside k → Inside (token_by_class m k rest)
+  unfolding token_by_class
+  class_inside classes.IdentifierStart h = one tt
+  class_inside classes.IdentifierContinue h = none
+  class_inside classes.Quote h = literal_inside
+  class_inside classes.Opener h =
+      choice (eqb (get_or rest 0 0) 40) (one tt)
+      (choice (eqb (get_or rest 0 0) 91) (one tt)
+      (choice (eqb (get_or rest 0 0) 123) (one tt) none))
+  class_inside classes.Closer h =
+      choice (eqb (get_or rest 0 0) 41) (close_inside _ Paren kinds.ParenR tt)
+      (choice (eqb (get_or rest 0 0) 93) (close_inside _ Bracket kinds.BracketR tt)
+      (choice (eqb (get_or rest 0 0) 125) (brace_inside _ _) none))
+  class_inside classes.Fixed h = fixed_inside (get_or rest 0 0)
+  class_inside classes.Lead h = choice (eqb (first_char rest) 65279) (one tt) none
+  class_inside _ h = absurd h
+
 abbrev EndsBy : Mode → NextToken → Type 0
 EndsBy m (Ok x) = EndFact m x.0
 EndsBy m (Err r) = Unit {0}
@@ -54,12 +145,13 @@ EndsBy m (Err r) = Unit {0}
 record Ends (m : Mode) (found : NextToken) : Type 0 where
   fact : EndsBy m found
 
+inside_ends : (m : Mode) (x : NextToken) → Inside x → Ends m x
+inside_ends m (Ok x) h = record { fact = inside_fact x.0 m h.inside }
+inside_ends m (Err r) h = record { fact = tt }
+
 module _ (m : Mode) (rest : List ℕ) where
   is : {k : TokenKind} {n : ℕ} → EndFact m k → Ends m (Ok (k, n))
   is f = record { fact = f }
-
-  inside : {k : TokenKind} {n : ℕ} → IsInside k → Ends m (Ok (k, n))
-  inside {k} f = record { fact = inside_fact k m f }
 
   refused : {r : LexicalError} → Ends m (Err r)
   refused = record { fact = tt }
@@ -75,68 +167,11 @@ module _ (m : Mode) (rest : List ℕ) where
       by true e = is tt
       by false e = is e
 
-  twice_plain : (b : ℕ) (k : TokenKind) → IsInside k → Ends m (doubled_token b k rest)
-  twice_plain b k e = either (eqb (get_or rest 1 0) b) (inside e) (either (eqb (length (drop 1 rest)) 0) refused refused)
-
-  fixed_plain : (b : ℕ) → Ends m (fixed_token b rest)
-  unfolding fixed_token
-  fixed_plain b =
-      let c = get_or rest 1 0 in
-      either (eqb b 33) (either (eqb c 61) (is tt) (either (eqb c 126) (is tt) (is tt)))
-      (either (eqb b 38) (twice_plain 38 kinds.AmpersandAmpersand tt)
-      (either (eqb b 124) (twice_plain 124 kinds.BarBar tt)
-      (either (eqb b 43) (either (eqb c 43) (is tt) (is tt))
-      (either (eqb b 61) (either (eqb c 61) (is tt) (either (eqb c 126) (is tt) (is tt)))
-      (either (eqb b 58) (either (eqb c 61) (is tt) (either (eqb c 58) (is tt) (is tt)))
-      (either (eqb b 36) (is tt)
-      (either (eqb b 42) (is tt)
-      (either (eqb b 44) (is tt)
-      (either (eqb b 47) (is tt)
-      (either (eqb b 63) (is tt)
-      (either (eqb b 64) (is tt) refused)))))))))))
-
-  part_plain : (k : StringKind) (format : Bool) (opener : ℕ) (more whole : TokenKind) → IsInside more → IsInside whole
-      → Ends m (literal_part k format opener more whole rest)
-  unfolding literal_part
-  part_plain k format opener more whole e f =
-      either (eqb (raw_len (raw_texts.Literal k format) (drop opener rest)) (length (drop opener rest))) refused
-      (either (format && is_interpolation_start (drop (raw_len (raw_texts.Literal k format) (drop opener rest)) (drop opener rest))) (inside e) (inside f))
-
-  literal_plain : Ends m (literal_token m rest)
-  literal_plain = part_plain _ _ _ kinds.FormatStringStart _ tt (whole (kind_of rest).delimiter)
-    where
-      whole : (d : StringDelimiter) → IsInside (token_kind_of d)
-      whole delimiters.Backtick = tt
-      whole delimiters.QuoteDouble = tt
-      whole delimiters.QuoteSingle = tt
-
-  close_plain : (o : Option OpenDelimiter) (d : Delimiter) (k : TokenKind) → IsInside k → Ends m (closing_delimiter o d k)
-  close_plain None d k e = refused
-  close_plain (Some o) d k e = either (is_same o.delimiter d) (inside e) refused
-
-  brace_plain : (f : Option StringKind) (o : Option OpenDelimiter) → Ends m (brace_by f o rest)
-  brace_plain None o = close_plain o Brace kinds.BraceR tt
-  brace_plain (Some k) o = either (is_interpolation_end rest) (part_plain k true 2 kinds.FormatStringContinue kinds.FormatStringEnd tt tt)
-      (close_plain o Brace kinds.BraceR tt)
-
   inline_plain : (k : ByteClass) → Ends m (token_by_class m k rest)
   unfolding token_by_class
   inline_plain classes.Blank = is tt
   inline_plain classes.LineFeed = line_ends _
   inline_plain classes.CarriageReturn = either (eqb (get_or rest 1 0) 10) (line_ends _) refused
-  inline_plain classes.IdentifierStart = is tt
-  inline_plain classes.IdentifierContinue = refused
-  inline_plain classes.Quote = literal_plain
-  inline_plain classes.Opener =
-      either (eqb (get_or rest 0 0) 40) (is tt)
-      (either (eqb (get_or rest 0 0) 91) (is tt)
-      (either (eqb (get_or rest 0 0) 123) (is tt) refused))
-  inline_plain classes.Closer =
-      either (eqb (get_or rest 0 0) 41) (close_plain _ Paren kinds.ParenR tt)
-      (either (eqb (get_or rest 0 0) 93) (close_plain _ Bracket kinds.BracketR tt)
-      (either (eqb (get_or rest 0 0) 125) (brace_plain _ _) refused))
-  inline_plain classes.Fixed = fixed_plain (get_or rest 0 0)
-  inline_plain classes.Lead = either (eqb (first_char rest) 65279) (is tt) refused
   inline_plain classes.Other =
       either (eqb (get_or rest 0 0) 35) (is tt)
       (either (eqb (get_or rest 0 0) 92)
@@ -144,6 +179,13 @@ module _ (m : Mode) (rest : List ℕ) where
       (either (eqb (get_or rest 1 0) 13) (either (eqb (get_or rest 2 0) 10) (is tt) refused)
       (either (eqb (length (drop 1 rest)) 0) refused refused)))
       refused)
+  inline_plain classes.IdentifierStart = inside_ends m _ (class_inside m rest classes.IdentifierStart tt)
+  inline_plain classes.IdentifierContinue = inside_ends m _ (class_inside m rest classes.IdentifierContinue tt)
+  inline_plain classes.Quote = inside_ends m _ (class_inside m rest classes.Quote tt)
+  inline_plain classes.Opener = inside_ends m _ (class_inside m rest classes.Opener tt)
+  inline_plain classes.Closer = inside_ends m _ (class_inside m rest classes.Closer tt)
+  inline_plain classes.Fixed = inside_ends m _ (class_inside m rest classes.Fixed tt)
+  inline_plain classes.Lead = inside_ends m _ (class_inside m rest classes.Lead tt)
 
 abbrev NotDedent : TokenKind → Type 0
 NotDedent kinds.Dedent = ⊥

@@ -1,10 +1,11 @@
--- Two texts that are joined at a chunk have the chunks of the one before it, and those of the other from it on.
+-- Two texts that are joined at a chunk, or at its first byte, have the chunks of the one before it, and those of the other from it on.
 use Rattle.std.proofs.Common.{◌≡◌, ◌≢◌, ◌∙◌, ℕ, ◌+◌, ◌-◌, ◌<◌, List, [], ◌∷◌, ◌++◌, length, map, take, drop, refl, sym, ap, subst, arith, append_assoc, append-nil}
 use Rattle.std.specs.List.{AllByRecursion}
 use Rattle.std.specs.Str.{IsUtf8}
 use Rattle.std.proofs.lemmas.List.{map-append}
 use Rattle.std.proofs.lemmas.List.Concat.{flat_map-append}
 use Rattle.std.proofs.lemmas.Str.{IsUtf8-append}
+use Rattle.std.proofs.Math.Seq.{take-append-add}
 use Rattle.justfile_model.specs.Grammars.Conditions.{Conditions}
 use Rattle.justfile_model.specs.Grammars.Features.{Noted}
 use Rattle.justfile_model.specs.Lexing.Lexed.{Lexed}
@@ -15,8 +16,10 @@ use Rattle.justfile_model.proofs.Lists.AllParts.{of_mapped}
 use Rattle.justfile_round_trip.specs.RoundTrip.{TextDerives}
 use Rattle.justfile_round_trip.proofs.LiteralTexts.LexedModes.{drop_front, take_front}
 use Rattle.justfile_round_trip.proofs.Values.TokenFacts.{Runs}
-use Rattle.justfile_chunks_grammar.specs.Chunks.{AreParts, Chunk, Parts, after_feed, chunks_of, first_chunk, first_line, first_offset, later_chunk, next_kind, text_of}
-use Rattle.justfile_chunks.specs.JoinedTexts.{BeginsAtOnce, HasChunks, JoinLaw, joined_chunk, joined_text}
+use Rattle.justfile_chunks_grammar.specs.Chunks.{AreParts, Chunk, Parts, after_feed, chunks_of, first_chunk, first_line, first_offset, later_chunk, text_of}
+use Rattle.justfile_chunks.specs.JoinedTexts.{BeginsAtOnce, HasChunks, JoinLaw, chunk, joined_chunk, joined_text}
+use Rattle.justfile_chunks.proofs.AloneTexts.{Alone}
+use Rattle.justfile_chunks.proofs.AskedNext.{SameAsked, as_asked, same_by_byte}
 use Rattle.justfile_chunks.proofs.ChunkTokens.{first_part, from_start, onto_mode, some_bytes, whole_is}
 use Rattle.justfile_chunks.proofs.ChunkTrees.{have_colons}
 use Rattle.justfile_chunks.proofs.JoinedNext.{is_dark}
@@ -175,8 +178,9 @@ module _ (conditions : Conditions) where
   own_tokens : (text : List ℕ) → (tree : Tree) × (features : List (Noted Tok)) × TextDerives conditions text tree features → OwnTokens text
   own_tokens text h = record { tokens = h.2.tokens; lexed = h.2.lexed; colons = have_colons conditions h.2.tokens h.2.file }
 
-module _ (left right : List ℕ) (before rest skipped after : List Chunk) (at from : Chunk) (same : at.text ≡ from.text) (begins : BeginsAtOnce from)
-    (l : Side left before at rest begins.first) (r : Side right skipped from after begins.first)
+-- Two chunks begin with the same byte, and what a cut asks of the tokens there is the same.
+module _ (left right : List ℕ) (before rest skipped after : List Chunk) (at from : Chunk) (begins : BeginsAtOnce from)
+    (l : Side left before at rest begins.first) (r : Side right skipped from after begins.first) (next : SameAsked l.side.rest r.side.rest)
     (own : AllByRecursion (λ part. OwnTokens (after_feed part)) (r.part ∷ r.parts)) where
   abbrev front : List Tok
   front = all_of l.front
@@ -203,16 +207,9 @@ module _ (left right : List ℕ) (before rest skipped after : List Chunk) (at fr
       (colons_of (r.part ∷ r.parts) r.side.at r.side.rest r.side.later_at r.side.are own)
       (subst (λ x. Placed x (length (text_of (all_of r.front))) r.side.rest) r.is r.rest_places) l.moves r.moves
 
-  next_is : next_kind l.side.rest ≡ next_kind moved_rest
-  next_is =
-      same_first l.side.rest l.part r.side.rest r.part (first_chunk_of l.part l.parts l.side.at l.side.rest l.side.later_at l.side.are)
-      (first_chunk_of r.part r.parts r.side.at r.side.rest r.side.later_at r.side.are)
-      (ap tail_of (ap (λ (c : Chunk). c.text) l.at_is ∙ same ∙ sym (ap (λ (c : Chunk). c.text) r.at_is))) own.0
-      ∙ next_elsewhere at from r.side.rest
-
   parts_are : Parts [] (front ++ moved_rest) (l.front ++ new_parts)
   parts_are =
-      l.side.others moved_rest new_parts next_is
+      l.side.others moved_rest new_parts (next ∙ ap as_asked (next_elsewhere at from r.side.rest))
       (parts_elsewhere at from l.side.at (r.side.fresh_at.levels ∙ sym l.side.fresh_at.levels) (r.side.fresh_at.line ∙ sym l.side.fresh_at.line) r.side.are)
 
   chunks_are : before ++ map (joined_chunk at from) (from ∷ after) ≡ chunks_of (l.front ++ new_parts)
@@ -237,14 +234,80 @@ module _ (left right : List ℕ) (before rest skipped after : List Chunk) (at fr
     chunks_are = chunks_are;
   }
 
+-- the tokens of the right text's parts are those of its chunks
+own_parts : (right : List ℕ) (skipped after : List Chunk) (from : Chunk) (d : ℕ) (r : Side right skipped from after d)
+    → AllByRecursion (λ (c : Chunk). OwnTokens c.text) (from ∷ after) → AllByRecursion (λ part. OwnTokens (after_feed part)) (r.part ∷ r.parts)
+own_parts right skipped after from d r own =
+    let later : from ∷ after ≡ map later_chunk (r.part ∷ r.parts) = λ i. sym r.at_is i ∷ sym r.after_is i in
+    of_mapped _ later_chunk (λ part o. o) (r.part ∷ r.parts) (subst (AllByRecursion (λ (c : Chunk). OwnTokens c.text)) later own)
+
+-- chunks that derive trees have their own tokens
+own_chunks : (conditions : Conditions) (chunks : List Chunk)
+    → AllByRecursion (λ c. (tree : Tree) × (features : List (Noted Tok)) × TextDerives conditions c.text tree features) chunks
+    → AllByRecursion (λ (c : Chunk). OwnTokens c.text) chunks
+own_chunks conditions [] h = tt
+own_chunks conditions (c ∷ chunks) h = (own_tokens conditions c.text h.0, own_chunks conditions chunks h.1)
+
 -- two texts with a chunk in common, joined there
 pub join_law : JoinLaw
 join_law conditions left right before rest skipped after at from h k some skips same begins derive =
     let l = side_of left at begins.first begins.others (same ∙ begins.are) before rest h some in
     let r = side_of right from begins.first begins.others begins.are skipped after k skips in
-    let later : from ∷ after ≡ map later_chunk (r.part ∷ r.parts) = λ i. sym r.at_is i ∷ sym r.after_is i in
-    joined_has left right before rest skipped after at from same begins l r
-    (of_mapped _ later_chunk (λ part. own_tokens conditions (after_feed part)) (r.part ∷ r.parts) (subst (AllByRecursion _) later derive))
+    let own = own_parts right skipped after from begins.first r (own_chunks conditions (from ∷ after) derive) in
+    let next = same_first l.side.rest l.part r.side.rest r.part (first_chunk_of l.part l.parts l.side.at l.side.rest l.side.later_at l.side.are)
+    (first_chunk_of r.part r.parts r.side.at r.side.rest r.side.later_at r.side.are)
+    (ap tail_of (ap (λ (c : Chunk). c.text) l.at_is ∙ same ∙ sym (ap (λ (c : Chunk). c.text) r.at_is))) own.0 in
+    joined_has left right before rest skipped after at from begins l r (ap as_asked next) own
+
+-- the last chunk is the rest of the text
+last_text : (text : List ℕ) (before : List Chunk) (at : Chunk) (d : ℕ) (l : Side text before at [] d) → text_of l.side.rest ≡ tail_of at.text
+last_text text before at d l = by l.parts l.after_is l.side.are
+  where
+    by : (parts : List (List Tok)) → map later_chunk parts ≡ [] → Parts l.side.at l.side.rest (l.part ∷ parts) → text_of l.side.rest ≡ tail_of at.text
+    by [] e p = ap text_of (first_part p) ∙ ap tail_of (ap (λ (c : Chunk). c.text) l.at_is)
+    by (q ∷ parts) e p = cc
+
+-- two texts that have the first byte of a chunk in common, joined there
+pub byte_joined : (conditions : Conditions) (left right : List ℕ) (before skipped after : List Chunk) (at from : Chunk)
+    → HasChunks left (before ++ (at ∷ [])) → HasChunks right (skipped ++ (from ∷ after)) → before ≢ [] → skipped ≢ []
+    → at.text ≡ take 2 from.text → BeginsAtOnce from
+    → AllByRecursion (λ c. (tree : Tree) × (features : List (Noted Tok)) × TextDerives conditions c.text tree features) (from ∷ after)
+    → HasChunks (joined_text left at right from) (before ++ map (joined_chunk at from) (from ∷ after))
+byte_joined conditions left right before skipped after at from h k some skips same begins derive =
+    let is : at.text ≡ 10 ∷ begins.first ∷ [] = same ∙ ap (take 2) begins.are in
+    let l = side_of left at begins.first [] is before [] h some in
+    let r = side_of right from begins.first begins.others begins.are skipped after k skips in
+    let next = same_by_byte begins.first (is_dark begins.first begins.is_other) l.side.at l.side.rest r.side.at r.side.rest r.others l.side.later_at
+    (last_text left before at begins.first l ∙ ap tail_of is) r.side.later_at r.rest_is in
+    joined_has left right before [] skipped after at from begins l r next (own_parts right skipped after from begins.first r (own_chunks conditions (from ∷ after) derive))
+
+-- a text up to the first byte of a later chunk, and that byte: it is joined with that byte alone
+pub byte_front : (text : List ℕ) (before after : List Chunk) (from : Chunk) (begins : BeginsAtOnce from) → HasChunks text (before ++ (from ∷ after))
+    → before ≢ [] → Alone begins.first
+    → HasChunks (take (from.offset + 2) text) (before ++ (chunk (take 2 from.text) from.offset from.line ∷ []))
+byte_front text before after from begins h some a =
+    let d = begins.first in
+    let right = 10 ∷ d ∷ [] in
+    let byte = chunk right 0 0 in
+    let l = side_of text from d begins.others begins.are before after h some in
+    let r = side_of right byte d [] refl (chunk (10 ∷ []) 0 0 ∷ []) [] a.has (λ e. cc) in
+    let next = sym (same_by_byte d (is_dark d begins.is_other) r.side.at r.side.rest l.side.at l.side.rest l.others r.side.later_at
+    (last_text right (chunk (10 ∷ []) 0 0 ∷ []) byte d r) l.side.later_at l.rest_is) in
+    let front = text_of (all_of l.front) in
+    let size : length front + 1 ≡ from.offset + 2 = omega (arith, l.moves.bytes) in
+    let is : text ≡ front ++ (d ∷ l.others) = l.is ∙ ap (λ x. front ++ x) l.rest_is in
+    let seen : take (from.offset + 1) text ++ (d ∷ []) ≡ take (from.offset + 2) text =
+    ap (λ x. x ++ (d ∷ [])) (front_text text front (text_of l.side.rest) from l.is l.moves) ∙ sym (take-append-add front (d ∷ l.others) 1)
+    ∙ (λ i. take (size i) (sym is i)) in
+    subst (λ x. HasChunks x (before ++ (chunk (take 2 from.text) from.offset from.line ∷ []))) seen
+    (subst (λ c. HasChunks (take (from.offset + 1) text ++ (d ∷ [])) (before ++ (c ∷ [])))
+    (λ i. chunk (take 2 (sym begins.are i)) (none_added from.offset i) (none_added from.line i))
+    (joined_has text right before after (chunk (10 ∷ []) 0 0 ∷ []) [] from byte
+    (record { first = d; others = []; are = refl; is_other = begins.is_other }) l r next
+    (own_parts right (chunk (10 ∷ []) 0 0 ∷ []) [] byte d r (a.own, tt))))
+  where
+    none_added : (n : ℕ) → n + (0 - 0) ≡ n
+    none_added n = omega arith
 
 -- the text is long enough for what is before the chunk
 pub front_fits : (text : List ℕ) (at : Chunk) (before after : List Chunk) {from : Chunk} (begins : BeginsAtOnce from) → at.text ≡ from.text

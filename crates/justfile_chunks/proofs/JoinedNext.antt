@@ -94,7 +94,7 @@ module _ (d : ℕ) (dark : IsDark d) where
 
   module _ (m : Mode) where
     -- before the byte only a dedent can be without bytes
-    starts : (v : List ℕ) → nested m ≡ false → m.line_start ≡ true
+    pub starts : (v : List ℕ) → nested m ≡ false → m.line_start ≡ true
         → next m (d ∷ v) ≡ cond (bytes_eq [] (innermost m)) (token_within_line m (d ∷ v)) (Ok (kinds.Dedent, 0))
     starts v flat start =
         next_start m (d ∷ v) (omega arith) start ∙ ap (λ n. layout m (take n (d ∷ v)) (drop n (d ∷ v)) (d ∷ v)) (no_blanks v)

@@ -1,6 +1,6 @@
--- Parts before a cut are parts whatever tokens follow it, as long as the next one has the same kind; and those after a cut are parts wherever
--- they are.
-use Rattle.std.proofs.Common.{◌≡◌, ◌∙◌, ℕ, ◌+◌, ◌-◌, ◌<◌, Bool, false, cond, List, [], ◌∷◌, ◌++◌, length, map, Some, refl, sym, ap, subst, arith, append_assoc, length-append}
+-- Parts before a cut are parts whatever tokens follow it, as long as a cut asks the same of the next one; and those after a cut are parts
+-- wherever they are.
+use Rattle.std.proofs.Common.{◌≡◌, ◌∙◌, ℕ, ◌+◌, ◌-◌, ◌<◌, Bool, true, false, cond, List, [], ◌∷◌, ◌++◌, length, map, Some, refl, sym, ap, subst, arith, append_assoc, length-append}
 use Rattle.std.specs.List.{AllByRecursion}
 use Rattle.std.specs.Str.{IsUtf8}
 use Rattle.justfile_vocabulary.specs.declared.token_kind.TokenKind.TheVariants as kinds
@@ -15,6 +15,7 @@ use Rattle.justfile_chunks_grammar.proofs.Colons.{IndentsHaveColons, NeedsColon,
 use Rattle.justfile_chunks_grammar.proofs.CutTokens.{ends_dark}
 use Rattle.justfile_chunks_grammar.proofs.Passes.{line_with}
 use Rattle.justfile_chunks.proofs.AllCuts.{Fresh, cut_by, fresh, levels_like}
+use Rattle.justfile_chunks.proofs.AskedNext.{SameAsked, as_asked, cut_next}
 use Rattle.justfile_chunks.proofs.ChunkTokens.{ChunkLexes, Later, NextPart, Split, colons_append, colons_front, cut_chunk, first_part, last_chunk, next_part, onto, plain}
 use Rattle.justfile_chunks.proofs.PartSteps.{Uncut, feed_utf8}
 use Rattle.justfile_chunks.proofs.SameModes.{NoneIsEof, marks}
@@ -32,15 +33,20 @@ onto_append : (e p q : List Tok) → onto e (p ++ q) ≡ onto (onto e p) q
 onto_append e [] q = refl
 onto_append e (t ∷ p) q = onto_append (t ∷ e) p q
 
-next_same : (ts us vs : List Tok) → next_kind us ≡ next_kind vs → next_kind (ts ++ us) ≡ next_kind (ts ++ vs)
+next_same : (ts us vs : List Tok) → SameAsked us vs → SameAsked (ts ++ us) (ts ++ vs)
 next_same [] us vs h = h
-next_same (t ∷ ts) us vs h = ap (λ k. cond (is_whitespace t.kind) k (Some t.kind)) (next_same ts us vs h)
+next_same (t ∷ ts) us vs h = by (is_whitespace t.kind) (next_same ts us vs h)
+  where
+    by : (b : Bool) → SameAsked (ts ++ us) (ts ++ vs)
+        → as_asked (cond b (next_kind (ts ++ us)) (Some t.kind)) ≡ as_asked (cond b (next_kind (ts ++ vs)) (Some t.kind))
+    by true more = more
+    by false more = refl
 
-cut_before : (e ts us : List Tok) → next_kind ts ≡ next_kind us → IsCut e ts → IsCut e us
+pub cut_before : (e ts us : List Tok) → SameAsked ts us → IsCut e ts → IsCut e us
 cut_before [] ts us next c = absurd c
-cut_before (t ∷ e) ts us next c = cut_by t t e e ts us refl refl refl next c
+cut_before (t ∷ e) ts us next c = cut_next t e ts us next c
 
-uncut_before : (e p ts us : List Tok) → next_kind ts ≡ next_kind us → Uncut e p ts → Uncut e p us
+uncut_before : (e p ts us : List Tok) → SameAsked ts us → Uncut e p ts → Uncut e p us
 uncut_before e [] ts us next h = tt
 uncut_before e (t ∷ []) ts us next h = tt
 uncut_before e (t ∷ w ∷ p) ts us next h = (
@@ -70,7 +76,7 @@ pub record Front (e later : List Tok) (front : List (List Tok)) (parts : List (L
   pub are : Parts at rest parts
   pub no_eof : NoneIsEof (all_of front)
   pub some : 0 < length front → 0 < length (all_of front)
-  pub others : (us : List Tok) (ps : List (List Tok)) → next_kind rest ≡ next_kind us → Parts at us ps → Parts e (all_of front ++ us) (front ++ ps)
+  pub others : (us : List Tok) (ps : List (List Tok)) → SameAsked rest us → Parts at us ps → Parts e (all_of front ++ us) (front ++ ps)
 
 pub front_of : (front : List (List Tok)) (part : List Tok) (parts : List (List Tok)) (e later : List Tok) → Later e later → Fresh e
     → Parts e later (front ++ (part ∷ parts)) → Front e later front (part ∷ parts)
@@ -108,7 +114,7 @@ front_of (q ∷ front) part parts e later h f p =
       no_eof = none_append q (all_of front) n.is_part.no_eof m.no_eof;
       some = λ l. omega (arith, s.some, length-append q (all_of front));
       others = λ us ps next o.
-          let same : next_kind s.rest ≡ next_kind (all_of front ++ us) = ap next_kind m.is ∙ next_same (all_of front) m.rest us next in
+          let same : SameAsked s.rest (all_of front ++ us) = ap (λ ts. as_asked (next_kind ts)) m.is ∙ next_same (all_of front) m.rest us next in
           subst (λ ts. Parts e ts (q ∷ front ++ ps)) (sym (append_assoc q (all_of front) us))
           (one_part q e (all_of front ++ us) (front ++ ps) s.some (uncut_before e q s.rest (all_of front ++ us) same s.uncut)
           (cut_before (onto e q) s.rest (all_of front ++ us) same s.cut) (m.others us ps next o));
@@ -262,7 +268,7 @@ colons_of (part ∷ q ∷ parts) e later h p o =
 
 -- ---- the texts of parts
 
-fed_utf8 : (text rest : List ℕ) → EndsInFeed text → IsUtf8 (text ++ rest) → IsUtf8 text
+pub fed_utf8 : (text rest : List ℕ) → EndsInFeed text → IsUtf8 (text ++ rest) → IsUtf8 text
 fed_utf8 text rest h u =
     subst IsUtf8 (sym h.is) (feed_utf8 h.front rest (subst IsUtf8 (ap (λ x. x ++ rest) h.is ∙ append_assoc h.front (10 ∷ []) rest) u))
 

@@ -1,4 +1,6 @@
 pub mod AllCuts
+pub mod AloneTexts
+pub mod AskedNext
 pub mod ChunkTokens
 pub mod ChunkTrees
 pub mod CutModes
@@ -7,12 +9,16 @@ pub mod JoinedChunks
 pub mod JoinedNext
 pub mod JoinedParts
 pub mod JoinedTokens
+pub mod ManyParts
 pub mod MovedChunks
 pub mod MovedPlaces
+pub mod MovedTrees
 pub mod ParsedChunks
 pub mod PartLexes
 pub mod PartNext
 pub mod PartSteps
+pub mod PartTexts
+pub mod ReadTexts
 pub mod ReplacedChunks
 pub mod SameModes
 pub mod SameNext

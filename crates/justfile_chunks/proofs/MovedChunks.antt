@@ -145,6 +145,10 @@ first_near text rest part is h bytes = record {
       (placed p us l) marked);
 }
 
+-- after a text that ends in a line feed
+pub fed_moves : (before : List ℕ) → EndsInFeed before → Moves before (10 ∷ []) (length before - 1) (count_by is_line_feed before - 1)
+fed_moves before feed = subst (λ x. Moves x (10 ∷ []) (length x - 1) (count_by is_line_feed x - 1)) (sym feed.is) (after_text feed.front)
+
 module _ (text before rest : List ℕ) (t : Tok) (part : List Tok) (feed : EndsInFeed before) (is : text ≡ before ++ (text_of (t ∷ part) ++ rest))
     (h : Placed text (length before) (t ∷ part)) (some : 0 < length (text_of (t ∷ part))) where
   line_is : t.line ≡ count_by is_line_feed before
@@ -155,8 +159,7 @@ module _ (text before rest : List ℕ) (t : Tok) (part : List Tok) (feed : EndsI
 
   pub by_first : Moves before (10 ∷ []) (t.offset - 1) (t.line - 1)
   by_first =
-      let moves : Moves before (10 ∷ []) (length before - 1) (count_by is_line_feed before - 1) =
-      subst (λ x. Moves x (10 ∷ []) (length x - 1) (count_by is_line_feed x - 1)) (sym feed.is) (after_text feed.front) in
+      let moves = fed_moves before feed in
       subst (λ n. Moves before (10 ∷ []) n (t.line - 1)) (ap (λ n. n - 1) (sym h.0.offset_is))
       (subst (λ n. Moves before (10 ∷ []) (length before - 1) (n - 1)) (sym line_is) moves)
 

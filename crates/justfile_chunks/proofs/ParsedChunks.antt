@@ -135,28 +135,48 @@ pub some_chunk : (parsed : List ParsedChunk) → parsed ≢ [] → chunks_in par
 some_chunk [] h = λ e. h refl
 some_chunk (p ∷ parsed) h = λ e. cc
 
-module _ (conditions : Conditions) where
-  abbrev IsParsed : ParsedChunk → Type 0
-  IsParsed p = TextDerives conditions p.chunk.text p.tree p.features
+abbrev IsParsed : Conditions → ParsedChunk → Type 0
+IsParsed conditions p = TextDerives conditions p.chunk.text p.tree p.features
 
-  module _ (at from : Chunk) where
-    chunks_moved : (xs : List ParsedChunk) → map (joined_chunk at from) (chunks_in xs) ≡ chunks_in (map (joined_parsed at from) xs)
-    chunks_moved [] = refl
-    chunks_moved (x ∷ xs) = ap (λ l. joined_chunk at from x.chunk ∷ l) (chunks_moved xs)
+-- each chunk derives its tree
+abbrev pub AllParsed : Conditions → List ParsedChunk → Type 0
+AllParsed conditions parsed = AllByRecursion (IsParsed conditions) parsed
+
+pub split_chunks : (before after : List ParsedChunk) → chunks_in (before ++ after) ≡ chunks_in before ++ chunks_in after
+split_chunks before after = map-append (λ (p : ParsedChunk). p.chunk) before after
+
+pub first_parsed : (conditions : Conditions) (text : List ℕ) (before after : List ParsedChunk) → HasParsed conditions text (before ++ after)
+    → AllParsed conditions before
+first_parsed conditions text before after h = (parts (IsParsed conditions) before after h.derive).0
+
+pub later_parsed : (conditions : Conditions) (text : List ℕ) (before after : List ParsedChunk) → HasParsed conditions text (before ++ after)
+    → AllParsed conditions after
+later_parsed conditions text before after h = (parts (IsParsed conditions) before after h.derive).1
+
+-- each chunk has what it derives
+pub derived : (conditions : Conditions) (parsed : List ParsedChunk) → AllParsed conditions parsed
+    → AllByRecursion (λ (c : Chunk). (tree : Tree) × (features : List (Noted Tok)) × TextDerives conditions c.text tree features) (chunks_in parsed)
+derived conditions parsed h = all_mapped _ (λ (p : ParsedChunk). p.chunk) (λ p d. (p.tree, p.features, d)) parsed h
+
+module _ (at from : Chunk) where
+  chunks_moved : (xs : List ParsedChunk) → map (joined_chunk at from) (chunks_in xs) ≡ chunks_in (map (joined_parsed at from) xs)
+  chunks_moved [] = refl
+  chunks_moved (x ∷ xs) = ap (λ l. joined_chunk at from x.chunk ∷ l) (chunks_moved xs)
+
+  -- a text that has the chunks of two others has what is parsed of both
+  pub both_parsed : (conditions : Conditions) (text : List ℕ) (before after : List ParsedChunk)
+      → HasChunks text (chunks_in before ++ map (joined_chunk at from) (chunks_in after)) → AllParsed conditions before → AllParsed conditions after
+      → HasParsed conditions text (before ++ map (joined_parsed at from) after)
+  both_parsed conditions text before after h first later = record {
+    has = subst (HasChunks text) (ap (λ l. chunks_in before ++ l) (chunks_moved after) ∙ sym (split_chunks before (map (joined_parsed at from) after))) h;
+    derive = both (IsParsed conditions) before (map (joined_parsed at from) after) first (all_mapped _ (joined_parsed at from) (λ p d. d) after later);
+  }
 
 pub joined_tree_law : JoinedTreeLaw
 joined_tree_law conditions left right before rest skipped after at from h k some skips same begins =
-    let split = λ (xs ys : List ParsedChunk). map-append (λ (p : ParsedChunk). p.chunk) xs ys in
-    let later = (parts (IsParsed conditions) skipped (from ∷ after) k.derive).1 in
-    let text = joined_text left at.chunk right from.chunk in
-    record {
-      has = subst (HasChunks text)
-          (ap (λ l. chunks_in before ++ l) (chunks_moved conditions at.chunk from.chunk (from ∷ after))
-          ∙ sym (split before (map (joined_parsed at.chunk from.chunk) (from ∷ after))))
-          (join_law conditions left right (chunks_in before) (chunks_in rest) (chunks_in skipped) (chunks_in after) at.chunk from.chunk
-          (subst (HasChunks left) (split before (at ∷ rest)) h.has) (subst (HasChunks right) (split skipped (from ∷ after)) k.has)
-          (some_chunk before some) (some_chunk skipped skips) same begins
-          (all_mapped _ (λ (p : ParsedChunk). p.chunk) (λ p d. (p.tree, p.features, d)) (from ∷ after) later));
-      derive = both (IsParsed conditions) before (map (joined_parsed at.chunk from.chunk) (from ∷ after)) (parts (IsParsed conditions) before (at ∷ rest) h.derive).0
-          (all_mapped _ (joined_parsed at.chunk from.chunk) (λ p d. d) (from ∷ after) later);
-    }
+    let later = later_parsed conditions right skipped (from ∷ after) k in
+    both_parsed at.chunk from.chunk conditions (joined_text left at.chunk right from.chunk) before (from ∷ after)
+    (join_law conditions left right (chunks_in before) (chunks_in rest) (chunks_in skipped) (chunks_in after) at.chunk from.chunk
+    (subst (HasChunks left) (split_chunks before (at ∷ rest)) h.has) (subst (HasChunks right) (split_chunks skipped (from ∷ after)) k.has)
+    (some_chunk before some) (some_chunk skipped skips) same begins (derived conditions (from ∷ after) later))
+    (first_parsed conditions left before (at ∷ rest) h) later

@@ -34,9 +34,12 @@ pub fn blank_line_after_body()
 /// Two texts are joined at a recipe that both have, the one after a body and a blank line, the other
 /// after a line feed: up to the recipe the chunks are the first one's, and from it on the second
 /// one's. At a blank line they can't be joined so: if the text ends with it, it is the body's.
+/// Read up to the first byte of the recipe, the first text has the same chunks before it.
 pub fn joined_at_a_recipe()
     ensures left { HasChunks (codes "a:\n b\n\nc:\n")
         (chunk (codes "a:\n b\n") 0 0 ∷ chunk (codes "\n\n") 5 1 ∷ chunk (codes "\nc:\n") 6 2 ∷ []) }
+    ensures further { HasChunks (codes "a:\n b\n\nc")
+        (chunk (codes "a:\n b\n") 0 0 ∷ chunk (codes "\n\n") 5 1 ∷ chunk (codes "\nc") 6 2 ∷ []) }
     ensures right { HasChunks (codes "\nc:\nd:\n")
         (chunk (codes "\n") 0 0 ∷ chunk (codes "\nc:\n") 0 0 ∷ chunk (codes "\nd:\n") 3 1 ∷ []) }
     ensures text { joined_text (codes "a:\n b\n\nc:\n") (chunk (codes "\nc:\n") 6 2)

@@ -6,6 +6,7 @@ pub mod examples;
 
 ghost use Rattle.justfile_chunks_grammar.specs.Chunks.{NumberLaw, ShapeLaw, TokenLaw, TreeLaw};
 ghost use Rattle.justfile_chunks.specs.JoinedTexts.{JoinLaw, JoinedTreeLaw, ParsedLaw, ReplacedLaw};
+ghost use Rattle.justfile_chunks.specs.Parts.{FrontLaw, JoinedShapeLaw, PartLaw, PartsLaw, ReadLaw};
 
 /// A text derives a shape exactly if its chunks derive it. The chunks are the text cut at its items,
 /// each after the line feed before it. The shape is theirs, joined, without the items of these line
@@ -34,4 +35,18 @@ pub fn texts_join()
     ensures parsed { ParsedLaw }
     ensures trees { JoinedTreeLaw }
     ensures replaced { ReplacedLaw }
+{}
+
+/// A part of a text that was read one byte further is joined with a text that is parsed from that
+/// byte on, after a line feed: the joined text keeps the chunks of both, with their trees. The byte
+/// is no blank and no line end. The other way, what is before a later chunk is a part, if the chunk
+/// begins with a letter, `_`, `@`, `#` or `[`. A text was read so if its tokens end at a cut before
+/// the byte, and with the end in the byte's place they derive a tree. So a text can be parsed in
+/// parts, each by itself: it derives their trees, moved to their places and joined.
+pub fn parts_join()
+    ensures chunks { PartLaw }
+    ensures fronts { FrontLaw }
+    ensures two { ReadLaw }
+    ensures many { PartsLaw }
+    ensures shapes { JoinedShapeLaw }
 {}

@@ -23,6 +23,14 @@ returns c = record {
     are_parts = (cut_up [] _ _).are;
     chunks_are = refl;
   };
+  further = record {
+    utf8 = IsUtf8-from_is_utf8 (codes "a:\n b\n\nc") refl;
+    tokens = _;
+    parts = _;
+    lexed = computed (codes "a:\n b\n\nc") refl;
+    are_parts = (cut_up [] _ _).are;
+    chunks_are = refl;
+  };
   right = record {
     utf8 = IsUtf8-from_is_utf8 (codes "\nc:\nd:\n") refl;
     tokens = _;
