@@ -1,0 +1,108 @@
+//! The errors that problems are.
+ghost use Rattle.std.specs.Prelude.{◌≡◌, IfOk};
+ghost use Rattle.justfile_problems.specs.Errors.{IsErrorOf, Says};
+
+use crate::problem::{Problem, What};
+use justfile_token::{CompileError, CompileErrorKind, Name, Namepath};
+use std::alloc::{AllocError, Global};
+
+impl<'src> Problem<'src> {
+    /// Returns the error, as `just` reports it.
+    ///
+    /// # Errors
+    ///
+    /// `AllocError` if memory runs out.
+    pub fn error(&self, alloc: Global) -> Result<CompileError<'src>, AllocError>
+        ensures { IfOk result (λ error. IsErrorOf self.now error) }
+    {
+        let kind = kind_of(alloc, self.name, self.what)?;
+        Ok(self.name.token.error(kind))
+    }
+}
+
+/// Returns the kind of error at a name.
+fn kind_of<'src>(
+    alloc: Global,
+    name: Name<'src>,
+    what: What<'src>,
+) -> Result<CompileErrorKind<'src>, AllocError>
+    ensures { IfOk result (λ kind. Says name.entry what.entry kind) }
+{
+    let text = name.lexeme();
+    match what {
+        What::DependencyCount { found, takes } => match Namepath::from_name(alloc, name) {
+            Ok(dependency) => Ok(CompileErrorKind::DependencyArgumentCountMismatch {
+                dependency,
+                found,
+                min: takes.least,
+                max: takes.most.unwrap_or(usize::MAX),
+            }),
+            Err(fault) => Err(fault),
+        },
+        What::DuplicateDefault { .. } => Ok(CompileErrorKind::DuplicateDefault { recipe: text }),
+        What::DuplicateFunctionParameter { function, .. } => {
+            Ok(CompileErrorKind::DuplicateFunctionParameter {
+                function: function.lexeme(),
+                parameter: text,
+            })
+        }
+        What::DuplicateParameter { recipe, .. } => Ok(CompileErrorKind::DuplicateParameter {
+            recipe: recipe.lexeme(),
+            parameter: text,
+        }),
+        What::DuplicateSet { first } => Ok(CompileErrorKind::DuplicateSet {
+            setting: text,
+            first: first.token.line,
+        }),
+        What::DuplicateUnexport { .. } => {
+            Ok(CompileErrorKind::DuplicateUnexport { variable: text })
+        }
+        What::DuplicateVariable { .. } => {
+            Ok(CompileErrorKind::DuplicateVariable { variable: text })
+        }
+        What::ExportUnexported { .. } => Ok(CompileErrorKind::ExportUnexported { variable: text }),
+        What::FunctionCount { found, takes } => Ok(
+            CompileErrorKind::FunctionArgumentCountMismatch {
+                arguments: found,
+                expected: takes.least..=takes.most.unwrap_or(usize::MAX),
+                function: text,
+            },
+        ),
+        What::IncompatibleSettings { own, other, first } => {
+            Ok(CompileErrorKind::IncompatibleSettings {
+                first: other,
+                first_line: first.token.line,
+                second: own,
+            })
+        }
+        What::Redefinition {
+            kind,
+            first_kind,
+            first,
+        } => Ok(CompileErrorKind::Redefinition {
+            first: first.token.line,
+            first_type: first_kind,
+            name: text,
+            second_type: kind,
+        }),
+        What::RequiredParameter { .. } => {
+            Ok(CompileErrorKind::RequiredParameterFollowsDefaultParameter { parameter: text })
+        }
+        What::UndefinedFunction => Ok(CompileErrorKind::UndefinedFunction { function: text }),
+        What::UndefinedVariable => Ok(CompileErrorKind::UndefinedVariable { variable: text }),
+        What::UnknownAliasTarget { target } => match Namepath::from_name(alloc, target) {
+            Ok(target) => Ok(CompileErrorKind::UnknownAliasTarget {
+                alias: text,
+                target,
+            }),
+            Err(fault) => Err(fault),
+        },
+        What::UnknownDependency { item } => match Namepath::from_name(alloc, name) {
+            Ok(unknown) => Ok(CompileErrorKind::UnknownDependency {
+                recipe: item.lexeme(),
+                unknown,
+            }),
+            Err(fault) => Err(fault),
+        },
+    }
+}

@@ -1,0 +1,101 @@
+//! What a file says of names: where each is defined, and where it is used.
+use justfile_builtins::functions::Arguments;
+use justfile_token::Name;
+use justfile_vocabulary::{ItemKind, Keyword};
+
+/// A set of names, which an item has or the file. The names that the file may define are apart: those
+/// of items for other systems, and of modules whose files need not exist.
+#[derive(Clone, Copy, Debug, PartialEq, Eq, Hash)]
+pub enum Space {
+    /// Aliases, modules and recipes.
+    Commands,
+    /// The recipe that has the attribute `default`, whatever its name is.
+    DefaultRecipes,
+    /// The first parameter of an item that has a default and isn't an option, whatever its name is.
+    Defaults,
+    /// Settings with values that exclude other settings.
+    ExclusiveSettings,
+    /// Functions.
+    Functions,
+    /// Aliases, modules and recipes that the file may define.
+    HiddenCommands,
+    /// Functions that the file may define.
+    HiddenFunctions,
+    /// Assignments that the file may have.
+    HiddenVariables,
+    /// The parameters of an item.
+    Parameters,
+    /// Settings.
+    Settings,
+    /// Variables that are removed from the environment.
+    Unexports,
+    /// Assignments.
+    Variables,
+}
+
+/// A place where a name is defined.
+#[derive(Clone, Copy)]
+pub struct Definition<'src> {
+    /// The set of names that it belongs to.
+    pub space: Space,
+    /// The kind of the item that defines it.
+    pub kind: ItemKind,
+    /// The name of that item.
+    pub item: Name<'src>,
+    /// The name.
+    pub name: Name<'src>,
+    /// The numbers of arguments that a recipe or a function takes.
+    pub takes: Arguments,
+}
+
+/// What a name is used as.
+#[derive(Clone, Copy, Debug, PartialEq, Eq)]
+pub enum Role {
+    /// A recipe that another one depends on, with this number of arguments.
+    Dependency(usize),
+    /// A setting that excludes another one.
+    Exclusive {
+        /// The keyword that is its name.
+        own: Keyword,
+        /// The one that it excludes.
+        other: Keyword,
+    },
+    /// An assignment with the word `export`.
+    Export,
+    /// A function that is called, with this number of arguments.
+    Function(usize),
+    /// A parameter that is required and isn't an option.
+    Required,
+    /// The target of an alias.
+    Target,
+    /// A variable, which may be a parameter of its item. In a default it sees the parameters before
+    /// this offset, and elsewhere all.
+    Variable(Option<usize>),
+}
+
+/// A place where a name is used.
+#[derive(Clone, Copy)]
+pub struct Use<'src> {
+    /// What it is used as.
+    pub role: Role,
+    /// The name of the item that uses it.
+    pub item: Name<'src>,
+    /// The name.
+    pub name: Name<'src>,
+    /// Whether it may be in a line that begins with `#`, which the setting `ignore-comments` makes a
+    /// comment.
+    pub commented: bool,
+}
+
+/// What a file allows.
+#[derive(Clone, Copy)]
+pub struct Rules {
+    /// Recipes may be defined twice.
+    pub duplicate_recipes: bool,
+    /// Variables may be defined twice.
+    pub duplicate_variables: bool,
+    /// Lines of bodies that begin with `#` are comments.
+    pub ignore_comments: bool,
+    /// Other files may define names and set settings: the file imports one, or may be imported.
+    pub open: bool,
+}

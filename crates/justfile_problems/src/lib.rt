@@ -1,0 +1,18 @@
+//! What is wrong with the names of a file: defined twice, used and not defined, or used with a wrong
+//! number of arguments; and settings that exclude each other.
+#![tactic(auto)]
+
+mod calls;
+mod definitions;
+mod error;
+mod facts;
+mod judged;
+mod key;
+mod listing;
+mod names;
+mod problem;
+mod uses;
+
+pub use crate::facts::{Definition, Role, Rules, Space, Use};
+pub use crate::listing::problems;
+pub use crate::problem::{Problem, What};

@@ -1,0 +1,83 @@
+//! The problems of a file.
+ghost use Rattle.std.specs.Prelude.{◌≡◌, ◌++◌, IfOk, IsPermutation, OnOk, option_to_list};
+ghost use Rattle.std.specs.List.Sorted.{IsNonDecreasingBy};
+ghost use Rattle.justfile_problems.specs.Names.{known};
+ghost use Rattle.justfile_problems.specs.Problems.{all_problems, definition_problems, use_problems};
+
+use crate::definitions::definition_problem;
+use crate::facts::{Definition, Rules, Use};
+use crate::names::Names;
+use crate::problem::Problem;
+use crate::uses::use_problem;
+use std::alloc::{AllocError, Global};
+
+/// Returns all that is wrong with the names of a file, in the order of the text.
+///
+/// # Errors
+///
+/// `AllocError` if memory runs out.
+pub fn problems<'src>(
+    alloc: Global,
+    rules: Rules,
+    definitions: &[Definition<'src>],
+    uses: &[Use<'src>],
+) -> Result<Vec<Problem<'src>>, AllocError>
+    ensures all { IfOk result
+        (λ found. IsPermutation (all_problems rules definitions.now uses.now) found.items) }
+    ensures in_order { IfOk result
+        (λ found. IsNonDecreasingBy (λ p. p.name.token.offset) found.items) }
+{
+    let names = Names::of(alloc, definitions)?;
+    let mut found = Vec::new(alloc);
+    push_of_definitions(rules, &names, definitions, &mut found)?;
+    push_of_uses(rules, &names, uses, &mut found)?;
+    found.sort_by_key(|problem| problem.name.token.offset)?;
+    Ok(found)
+}
+
+/// Appends what is wrong with definitions.
+#[tactic(auto, using(std::proofs::lemmas::List::flat_map_more, std::proofs::lemmas::List::take_more))]
+fn push_of_definitions<'src>(
+    rules: Rules,
+    names: &Names<'src>,
+    definitions: &[Definition<'src>],
+    found: &mut Vec<Problem<'src>>,
+) -> Result<(), AllocError>
+    ensures { OnOk result (found.new.items
+        ≡ found.old.items ++ definition_problems rules (known names.now) definitions.now) }
+{
+    for definition in definitions {
+        push(definition_problem(rules, names, definition), found)?;
+    }
+    Ok(())
+}
+
+/// Appends what is wrong with uses.
+#[tactic(auto, using(std::proofs::lemmas::List::flat_map_more, std::proofs::lemmas::List::take_more))]
+fn push_of_uses<'src>(
+    rules: Rules,
+    names: &Names<'src>,
+    uses: &[Use<'src>],
+    found: &mut Vec<Problem<'src>>,
+) -> Result<(), AllocError>
+    ensures { OnOk result (found.new.items
+        ≡ found.old.items ++ use_problems rules (known names.now) uses.now) }
+{
+    for used in uses {
+        push(use_problem(rules, names, used), found)?;
+    }
+    Ok(())
+}
+
+/// Appends a problem, if there is one.
+fn push<'src>(
+    problem: Option<Problem<'src>>,
+    found: &mut Vec<Problem<'src>>,
+) -> Result<(), AllocError>
+    ensures { OnOk result (found.new.items ≡ found.old.items ++ option_to_list problem.entry) }
+{
+    if let Some(problem) = problem {
+        found.push(problem)?;
+    }
+    Ok(())
+}

@@ -1,0 +1,86 @@
+//! Problems: what is wrong, and where.
+use justfile_builtins::functions::Arguments;
+use justfile_token::Name;
+use justfile_vocabulary::{ItemKind, Keyword};
+
+/// What is wrong with a name.
+#[derive(Clone, Copy)]
+pub enum What<'src> {
+    /// A dependency has a wrong number of arguments.
+    DependencyCount {
+        found: usize,
+        takes: Arguments,
+    },
+    /// An earlier recipe has the attribute `default`, too.
+    DuplicateDefault {
+        first: Name<'src>,
+    },
+    /// An earlier parameter of the function has the name.
+    DuplicateFunctionParameter {
+        function: Name<'src>,
+        first: Name<'src>,
+    },
+    /// An earlier parameter of the recipe has the name.
+    DuplicateParameter {
+        recipe: Name<'src>,
+        first: Name<'src>,
+    },
+    /// The setting is set before.
+    DuplicateSet {
+        first: Name<'src>,
+    },
+    /// The variable is unexported before.
+    DuplicateUnexport {
+        first: Name<'src>,
+    },
+    /// An earlier assignment has the name.
+    DuplicateVariable {
+        first: Name<'src>,
+    },
+    /// The variable that is exported here is unexported.
+    ExportUnexported {
+        first: Name<'src>,
+    },
+    /// A function is called with a wrong number of arguments.
+    FunctionCount {
+        found: usize,
+        takes: Arguments,
+    },
+    /// An earlier setting excludes this one.
+    IncompatibleSettings {
+        own: Keyword,
+        other: Keyword,
+        first: Name<'src>,
+    },
+    /// An earlier item has the name.
+    Redefinition {
+        kind: ItemKind,
+        first_kind: ItemKind,
+        first: Name<'src>,
+    },
+    /// A required parameter follows one with a default.
+    RequiredParameter {
+        first: Name<'src>,
+    },
+    /// There is no such function.
+    UndefinedFunction,
+    /// There is no such variable.
+    UndefinedVariable,
+    /// The target of an alias isn't a recipe.
+    UnknownAliasTarget {
+        target: Name<'src>,
+    },
+    /// A recipe depends on what isn't a recipe.
+    UnknownDependency {
+        item: Name<'src>,
+    },
+}
+
+/// What is wrong, and where.
+#[derive(Clone, Copy)]
+pub struct Problem<'src> {
+    /// The name at which the error is.
+    pub name: Name<'src>,
+    /// What is wrong with it.
+    pub what: What<'src>,
+}
