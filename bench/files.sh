@@ -258,17 +258,31 @@ row 'a byte order mark is dropped' "$status $(text mark.just)" "0 $formatted."
 
 # what is lost by replacing a file is kept by writing it in place
 place() {
-    inode=$(stat -c '%i %u %g %a' "$2"); run "$2"
+    inode=$(stat -c '%i %u %g %a' "$2"); run ${3:-} "$2"
     row "$1 is written in place" "$status $(text "$2")$(stat -c '%i %u %g %a' "$2")" "0 $formatted.$inode"
 }
 put hard.just "$unformatted"; ln hard.just also.just; place 'a file with two links' hard.just
 row 'and its other name has the text' "$(text also.just)" "$formatted."
 put group.just "$unformatted"; chmod 660 group.just; place 'a file whose group may do more than others' group.just
 long=$(printf '%0250d' 0).just; put "$long" "$unformatted"; place 'a file with a long name' "$long"; rm "$long"
+put itself.just "$unformatted"; place 'with --in-place any file' itself.just --in-place
+before=$(stat -c '%i %Y %Z' itself.just); run --in-place itself.just
+row 'and one that is formatted is not touched' "$status $(stat -c '%i %Y %Z' itself.just)" "0 $before"
+for options in '--list --in-place' '--in-place --list'; do
+    put itself.just "$unformatted"; run $options itself.just c.just
+    row "$options names what it changed" "$status $(cat ../output)" '0 itself.just'
+done
+for words in '--check --in-place' '--in-place --check' '--diff --in-place' '--in-place -' '--list --in-place -'; do
+    put itself.just "$unformatted"; run $words; row "$words is refused" "$status $(cat ../errors)" "3 error: unexpected argument: ${words##* }
+see justfiles --help"
+done
 if command -v setfacl > /dev/null && setfacl -m u:1:rw mode.just 2> /dev/null; then
     put list.just "$unformatted"; chmod 600 list.just; setfacl -m u:1:rw list.just; before=$(getfacl -p list.just)
     place 'a file with an access list' list.just
     row 'and the list stays' "$(getfacl -p list.just)" "$before"
+    put denied.just "$unformatted"; chmod 644 denied.just; setfacl -m u:1:--- denied.just; before=$(getfacl -p denied.just)
+    run --in-place denied.just
+    row 'with --in-place one that only denies stays, too' "$status $(text denied.just)$(getfacl -p denied.just)" "0 $formatted.$before"
     mkdir lists; setfacl -d -m u:1:rwx lists; put lists/a.just "$unformatted"; chmod 600 lists/a.just; run lists/a.just
     row 'a list of the folder gives no more than the mode' "$status $(getfacl -pc lists/a.just | sed -n 's/^user:[^:].*effective:/list /p')$(stat -c %a lists/a.just)" '0 list ---600'
 fi

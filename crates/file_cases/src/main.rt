@@ -13,7 +13,7 @@ mod writer;
 use far::far_diff;
 use folder::MemoryFolder;
 use formatter::Constant;
-use justfile_files::request::{Request, Task, misuse_lines, request_in};
+use justfile_files::request::{Options, Request, misuse_lines, request_in};
 use justfile_files::run::run;
 use std::alloc::{AllocError, Global};
 use std::io;
@@ -59,6 +59,13 @@ static CASES: &[&str] = &[
     "- a",
     "--chek a",
     "--diff a\x1b --check",
+    "--in-place",
+    "--list --in-place",
+    "--in-place --list --",
+    "--in-place --check a",
+    "--check --in-place a",
+    "--in-place -",
+    "--list --in-place --name n -",
 ];
 
 /// How many calls of each kind fail in turn.
@@ -92,7 +99,7 @@ fn words(alloc: Global, text: &str) -> Result<Vec<String>, AllocError> {
 fn run_task(
     rt: &HostRuntime,
     case: &str,
-    task: Task,
+    options: Options,
     names: &[String],
     what: &str,
     faults: Faults,
@@ -103,7 +110,7 @@ fn run_task(
     let mut errors = MemoryWriter::new(alloc, usize::MAX);
     let status = run(
         alloc,
-        task,
+        options.task,
         names,
         &Constant,
         &mut folder,
@@ -119,21 +126,26 @@ fn run_task(
 }
 
 /// Runs a task without faults, and then with each fault.
-fn run_with_faults(rt: &HostRuntime, case: &str, task: Task, names: &[String]) -> io::Result<()> {
-    run_task(rt, case, task, names, "nothing", NONE)?;
+fn run_with_faults(
+    rt: &HostRuntime,
+    case: &str,
+    options: Options,
+    names: &[String],
+) -> io::Result<()> {
+    run_task(rt, case, options, names, "nothing", NONE)?;
     for call in 0..MOST_CALLS {
         let read = Faults { read: call, ..NONE };
-        run_task(rt, case, task, names, "read", read)?;
+        run_task(rt, case, options, names, "read", read)?;
         let replacement = Faults {
             replacement: call,
             ..NONE
         };
-        run_task(rt, case, task, names, "replacement", replacement)?;
+        run_task(rt, case, options, names, "replacement", replacement)?;
         let write = Faults {
             write: call,
             ..NONE
         };
-        run_task(rt, case, task, names, "write", write)?;
+        run_task(rt, case, options, names, "write", write)?;
     }
     Ok(())
 }
@@ -142,7 +154,7 @@ fn run_with_faults(rt: &HostRuntime, case: &str, task: Task, names: &[String]) -
 fn run_case(rt: &HostRuntime, case: &str) -> io::Result<()> {
     let arguments = words(rt.alloc(), case)?;
     match request_in(&arguments) {
-        Ok(Request::Files(task, names)) => run_with_faults(rt, case, task, names),
+        Ok(Request::Files(options, names)) => run_with_faults(rt, case, options, names),
         Ok(request) => println!(rt; "{case:?} {request:?}"),
         Err(misuse) => {
             let lines = misuse_lines(rt.alloc(), misuse)?;

@@ -11,7 +11,7 @@ use Rattle.justfile_files.specs.Folder.{Files, KeepsFiles, Replaces}
 use Rattle.justfile_files.specs.declared.failure.Failure.{Failure}
 use Rattle.justfile_files.specs.declared.failure.Failure.TheVariants as failures
 use Rattle.justfile_files.specs.Outcome.{BecomesFormatted, ChangesFiles, HasOutcome, HasOutcomes, HasReport, IsLost, IsReported, Outcome, Report, Takes, changed, changed_name, changed_names, differs, failed, formatted, greatest, lost, lost_messages, messages_of, none, rejected, report_of, status_of, with_report, written}
-use Rattle.justfile_files.specs.Request.{is_in_place, texts}
+use Rattle.justfile_files.specs.Request.{changes_files, texts}
 use Rattle.justfile_files.specs.Visible.{visible_name}
 use Rattle.justfile_files.specs.declared.request.Task.{Task}
 use Rattle.justfile_files.specs.declared.request.Task.TheVariants.{Check, Diff, Format, FormatAndName}
@@ -184,7 +184,7 @@ module _ (formats : List ℕ → List ℕ → Type 0) (rejects : List ℕ → Li
         first : (mid q.named ≡ files q.named) ⊎ BecomesFormatted formats task names files (files q.named) (mid q.named)
             → (c ≡ a) ⊎ BecomesFormatted formats task names files a c
         first (inl same) = inr (record {
-          in_place = q.in_place;
+          changes = q.changes;
           source = q.source;
           text = q.text;
           was = sym p ∙ q.was;
@@ -199,7 +199,7 @@ module _ (formats : List ℕ → List ℕ → Type 0) (rejects : List ℕ → Li
             let source_is : q.source ≡ r.text = same_Some q.source r.text (sym q.had ∙ r.is) in
             inl (q.is ∙ ap Some (text_is ∙ sym source_is) ∙ sym q.was ∙ p)
     kept-trans files mid a b c f (inr p) (inl q) = inr (record {
-      in_place = p.in_place;
+      changes = p.changes;
       source = p.source;
       text = p.text;
       was = p.was;
@@ -210,7 +210,7 @@ module _ (formats : List ℕ → List ℕ → Type 0) (rejects : List ℕ → Li
       had = p.had;
     })
     kept-trans files mid a b c f (inr p) (inr q) = inr (record {
-      in_place = p.in_place;
+      changes = p.changes;
       source = p.source;
       text = p.text;
       was = p.was;
@@ -232,7 +232,7 @@ module _ (formats : List ℕ → List ℕ → Type 0) (rejects : List ℕ → Li
       widened : (old new : Option (List ℕ)) → (new ≡ old) ⊎ BecomesFormatted formats task few a old new → (new ≡ old) ⊎ BecomesFormatted formats task names a old new
       widened old new (inl e) = inl e
       widened old new (inr r) = inr (record {
-        in_place = r.in_place;
+        changes = r.changes;
         source = r.source;
         text = r.text;
         was = r.was;
@@ -246,12 +246,12 @@ module _ (formats : List ℕ → List ℕ → Type 0) (rejects : List ℕ → Li
   changes_none : (names : List (List ℕ)) (a b : Files) → KeepsFiles a b → ChangesFiles formats task names a b
   changes_none names a b h = λ name. inl (h name)
 
-  becomes : (name source text : List ℕ) (files : Files) (old new : Option (List ℕ)) → IfSome (files name) (λ b. source ≡ b) → formats source text → is_in_place task ≡ true
+  becomes : (name source text : List ℕ) (files : Files) (old new : Option (List ℕ)) → IfSome (files name) (λ b. source ≡ b) → formats source text → changes_files task ≡ true
       → (new ≡ old) ⊎ ((bytes : List ℕ) × (files name ≡ Some bytes) × (old ≡ Some bytes) × (new ≡ Some text))
       → (new ≡ old) ⊎ BecomesFormatted formats task (name ∷ []) files old new
-  becomes name source text files old new is f in_place (inl e) = inl e
-  becomes name source text files old new is f in_place (inr h) = inr (record {
-    in_place = in_place;
+  becomes name source text files old new is f changes (inl e) = inl e
+  becomes name source text files old new is f changes (inr h) = inr (record {
+    changes = changes;
     source = h.0;
     text = text;
     was = h.2;
@@ -263,8 +263,8 @@ module _ (formats : List ℕ → List ℕ → Type 0) (rejects : List ℕ → Li
   })
 
   changes_replaced : (name source text : List ℕ) (old new : Files) → Replaces old new name text → IfSome (old name) (λ b. source ≡ b) → formats source text
-      → is_in_place task ≡ true → ChangesFiles formats task (name ∷ []) old new
-  changes_replaced name source text old new r is f in_place = λ other. becomes name source text old (old other) (new other) is f in_place (r.others other)
+      → changes_files task ≡ true → ChangesFiles formats task (name ∷ []) old new
+  changes_replaced name source text old new r is f changes = λ other. becomes name source text old (old other) (new other) is f changes (r.others other)
 
   -- ---- outcomes, while others become formatted
 
@@ -278,7 +278,7 @@ module _ (formats : List ℕ → List ℕ → Type 0) (rejects : List ℕ → Li
         let text_is : h.1 ≡ b.source = same_known h.1 b.source mid b.was h.3 in
         let again : b.text ≡ h.1 = one h.1 b.text h.1 (subst (λ s. formats s b.text) (sym text_is) b.formatted) (settled h.0 h.1 h.4.formatted) in
         (h.0, h.1, h.2, is_known h.1 new (b.is ∙ ap Some again), h.4, h.5)
-    stays old mid new (differs report) (inr b) h = absurd (true≢false (sym b.in_place ∙ h.4))
+    stays old mid new (differs report) (inr b) h = absurd (true≢false (sym b.changes ∙ h.4))
     stays old mid new (rejected lines) (inr b) h =
         absurd (never_both (visible_name name) b.source lines b.text (subst (λ s. rejects (visible_name name) s lines) (same_known h.0 b.source mid b.was h.1) h.2) b.formatted)
     stays old mid new (failed message) (inr b) h = h
@@ -504,7 +504,7 @@ module _ (formats : List ℕ → List ℕ → Type 0) (rejects : List ℕ → Li
           (outcome : Outcome) × IsDone formats rejects task writes loses name old new a b outcome × (messages_of outcome ≡ lost_messages report)
           × (reported_status outcome ≡ unless_lost report status)
 
-      becomes_changed : (report : Report) → is_in_place task ≡ true → Replaces mid new name text → IfSome (mid name) (λ x. source ≡ x) → HasReport task name source text report
+      becomes_changed : (report : Report) → changes_files task ≡ true → Replaces mid new name text → IfSome (mid name) (λ x. source ≡ x) → HasReport task name source text report
           → Takes writes loses a report b → Becomes report 0
       becomes_changed report place r known reported taken = (
         changed report,
@@ -519,7 +519,7 @@ module _ (formats : List ℕ → List ℕ → Type 0) (rejects : List ℕ → Li
         same_status report 0,
       )
 
-      becomes_different : (report : Report) → is_in_place task ≡ false → KeepsFiles mid new → HasReport task name source text report → Takes writes loses a report b
+      becomes_different : (report : Report) → changes_files task ≡ false → KeepsFiles mid new → HasReport task name source text report → Takes writes loses a report b
           → Becomes report 1
       becomes_different report place kept reported taken = (
         differs report,
@@ -533,11 +533,11 @@ module _ (formats : List ℕ → List ℕ → Type 0) (rejects : List ℕ → Li
       )
 
       becomes_handled : (report : Report) (t : Task) → task ≡ t → HandlesFile t name source text mid new → HasReport task name source text report
-          → Takes writes loses a report b → Becomes report (if is_in_place task then 0 else 1)
-      becomes_handled report Format e h reported taken = subst (λ (p : Bool). Becomes report (if p then 0 else 1)) (sym (ap is_in_place e)) (becomes_changed report (ap is_in_place e) h.0 h.1 reported taken)
-      becomes_handled report FormatAndName e h reported taken = subst (λ (p : Bool). Becomes report (if p then 0 else 1)) (sym (ap is_in_place e)) (becomes_changed report (ap is_in_place e) h.0 h.1 reported taken)
-      becomes_handled report Check e h reported taken = subst (λ (p : Bool). Becomes report (if p then 0 else 1)) (sym (ap is_in_place e)) (becomes_different report (ap is_in_place e) h reported taken)
-      becomes_handled report Diff e h reported taken = subst (λ (p : Bool). Becomes report (if p then 0 else 1)) (sym (ap is_in_place e)) (becomes_different report (ap is_in_place e) h reported taken)
+          → Takes writes loses a report b → Becomes report (if changes_files task then 0 else 1)
+      becomes_handled report Format e h reported taken = subst (λ (p : Bool). Becomes report (if p then 0 else 1)) (sym (ap changes_files e)) (becomes_changed report (ap changes_files e) h.0 h.1 reported taken)
+      becomes_handled report FormatAndName e h reported taken = subst (λ (p : Bool). Becomes report (if p then 0 else 1)) (sym (ap changes_files e)) (becomes_changed report (ap changes_files e) h.0 h.1 reported taken)
+      becomes_handled report Check e h reported taken = subst (λ (p : Bool). Becomes report (if p then 0 else 1)) (sym (ap changes_files e)) (becomes_different report (ap changes_files e) h reported taken)
+      becomes_handled report Diff e h reported taken = subst (λ (p : Bool). Becomes report (if p then 0 else 1)) (sym (ap changes_files e)) (becomes_different report (ap changes_files e) h reported taken)
 
       pub result_applied : (result : Result Bool Failure) → AppliesResult writes loses task name source text mid new a b result
           → HasResult formats rejects task writes loses name old new a b result
@@ -546,7 +546,7 @@ module _ (formats : List ℕ → List ℕ → Type 0) (rejects : List ℕ → Li
             done.0,
             done.1,
             done.2 ∙ in_messages h.1.0 ∙ sym t,
-            done.3 ∙ in_status h.1.0 (if is_in_place task then 0 else 1) ∙ ap (λ x. Some (if x then 0 else 1)) (sym h.0),
+            done.3 ∙ in_status h.1.0 (if changes_files task then 0 else 1) ∙ ap (λ x. Some (if x then 0 else 1)) (sym h.0),
           )
       result_applied (Err (failures.Writing error)) h messages t = becomes_handled (lost h.0 messages) task refl h.2 (h.1, t) h.3
       result_applied (Err (failures.Rejected lines)) h messages t = result_nothing (failures.Rejected lines) h.0 (λ n. h.1 n ∙ read n) h.2 messages t

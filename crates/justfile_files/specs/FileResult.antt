@@ -4,7 +4,7 @@ use Rattle.std.specs.List.{FoldsTo}
 use Rattle.justfile_files.specs.Failure.{TellFailure, failure_status}
 use Rattle.justfile_files.specs.Folder.{Files, KeepsFiles, Replaces}
 use Rattle.justfile_files.specs.Outcome.{ChangesFiles, HasOutcome, HasReport, IsReport, Outcome, Report, Takes, changed_name, lost, messages_of, none, report_of, status_of, written}
-use Rattle.justfile_files.specs.Request.{is_in_place}
+use Rattle.justfile_files.specs.Request.{changes_files}
 use Rattle.justfile_files.specs.declared.failure.Failure.{Failure}
 use Rattle.justfile_files.specs.declared.failure.Failure.TheVariants as failures
 use Rattle.justfile_files.specs.declared.request.Task.{Task}
@@ -58,7 +58,7 @@ module _ {O : Type 0} (writes loses : O → List ℕ → O → Type 0) (task : T
   -- what a result means for the files and the output: that they are as they were, if it is no failure of writing the report
   abbrev pub AppliesResult : (name source text : List ℕ) (old new : Files) (output_old output_new : O) → Result Bool Failure → Type 0
   AppliesResult name source text old new a b (Ok is) =
-      (is ≡ is_in_place task) × ((report : Option (List ℕ)) × HasReport task name source text (report_in report)
+      (is ≡ changes_files task) × ((report : Option (List ℕ)) × HasReport task name source text (report_in report)
       × HandlesFile task name source text old new × Takes writes loses a (report_in report) b)
   AppliesResult name source text old new a b (Err (failures.Writing error)) =
       (report : List ℕ) × IsReport task name source text report × HandlesFile task name source text old new × loses a report b

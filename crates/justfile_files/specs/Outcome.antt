@@ -4,7 +4,7 @@ use Rattle.std.specs.List.{AllZip, FoldsTo, flat_map}
 use Rattle.line_diff.specs.Unified.{IsUnified}
 use Rattle.justfile_files.specs.Failure.{IsMessage}
 use Rattle.justfile_files.specs.Folder.{Files}
-use Rattle.justfile_files.specs.Request.{is_in_place}
+use Rattle.justfile_files.specs.Request.{changes_files}
 use Rattle.justfile_files.specs.Visible.{visible_name}
 use Rattle.justfile_files.specs.declared.request.Task.{Task}
 use Rattle.justfile_files.specs.declared.request.Task.TheVariants.{Check, Diff, Format, FormatAndName}
@@ -122,7 +122,7 @@ module _ (formats : List ℕ → List ℕ → Type 0) (task : Task) (names : Lis
   -- A file's bytes become the formatted text of those that it had. Its name is given, or that of a file that had the same bytes, which it
   -- may be.
   pub record BecomesFormatted (files : Files) (old new : Option (List ℕ)) : Type 0 where
-    pub in_place : is_in_place task ≡ true
+    pub changes : changes_files task ≡ true
     pub source : List ℕ
     pub text : List ℕ
     pub was : old ≡ Some source
@@ -148,9 +148,9 @@ module _ (formats : List ℕ → List ℕ → Type 0) (rejects : List ℕ → Li
   HasOutcome name old new formatted = (source : List ℕ) × IfSome new (λ b. source ≡ b) × formats source source
   HasOutcome name old new (changed report) =
       (source : List ℕ) × (text : List ℕ) × IfSome old (λ b. source ≡ b) × IfSome new (λ b. text ≡ b)
-      × IsUnformatted name source text report × (is_in_place task ≡ true)
+      × IsUnformatted name source text report × (changes_files task ≡ true)
   HasOutcome name old new (differs report) =
-      (source : List ℕ) × (text : List ℕ) × IfSome new (λ b. source ≡ b) × IsUnformatted name source text report × (is_in_place task ≡ false)
+      (source : List ℕ) × (text : List ℕ) × IfSome new (λ b. source ≡ b) × IsUnformatted name source text report × (changes_files task ≡ false)
   HasOutcome name old new (rejected lines) = (source : List ℕ) × IfSome new (λ b. source ≡ b) × rejects (visible_name name) source lines
   HasOutcome name old new (failed message) = IsMessage name message
 

@@ -6,29 +6,32 @@ use Rattle.std.specs.Str.{bytes_eq}
 use Rattle.justfile_files.specs.Visible.{visible_name}
 use Rattle.justfile_files.specs.declared.request.Misuse.{Misuse}
 use Rattle.justfile_files.specs.declared.request.Misuse.TheVariants as misuses
+use Rattle.justfile_files.specs.declared.request.Options.{Options}
 use Rattle.justfile_files.specs.declared.request.Request.{Request}
 use Rattle.justfile_files.specs.declared.request.Request.TheVariants as requests
 use Rattle.justfile_files.specs.declared.request.Task.{Task}
 use Rattle.justfile_files.specs.declared.request.Task.TheVariants.{Check, Diff, Format, FormatAndName}
 use Rattle.justfile_files.specs.declared.request.TheConstants.{NAME}
+use Rattle.justfile_files.specs.declared.request.Writing.{Writing}
+use Rattle.justfile_files.specs.declared.request.Writing.TheVariants.{InPlace, Replace}
 use denote.Ref.{Bor}
 
 abbrev pub texts : {A : Type 0} → List (String A) → List (List ℕ)
 texts words = map string_bytes words
 
 -- whether files are replaced by their formatted texts
-abbrev pub is_in_place : Task → Bool
-is_in_place Format = true
-is_in_place FormatAndName = true
-is_in_place Check = false
-is_in_place Diff = false
+abbrev pub changes_files : Task → Bool
+changes_files Format = true
+changes_files FormatAndName = true
+changes_files Check = false
+changes_files Diff = false
 
 -- what arguments ask for, or why they ask for nothing
 pub data Asked : Type 0 where
   help : Asked
   version : Asked
-  files : (task : Task) (names : List (List ℕ)) → Asked
-  nearest : (task : Task) → Asked
+  files : (options : Options) (names : List (List ℕ)) → Asked
+  nearest : (options : Options) → Asked
   stream : (task : Task) (name : List ℕ) → Asked
   unexpected : (word : List ℕ) → Asked
   incomplete : Asked
@@ -38,19 +41,35 @@ abbrev pub without : (option : List ℕ) → List (List ℕ) → List (List ℕ)
 without option [] = []
 without option (word ∷ words) = if bytes_eq word option then words else word ∷ words
 
--- the task after `--list`, and the words after its options
-abbrev pub listing : List (List ℕ) → Task × List (List ℕ)
-listing [] = (FormatAndName, [])
-listing (word ∷ words) = if bytes_eq word (codes "--check") then (Check, words) else (FormatAndName, word ∷ words)
+abbrev pub replacing : Task → Options
+replacing task = record { task = task; writing = Replace }
 
--- the task that the first words ask for, and the words after its options
-abbrev pub task_of : List (List ℕ) → Task × List (List ℕ)
-task_of [] = (Format, [])
-task_of (word ∷ words) =
-    if bytes_eq word (codes "--check") then (Check, without (codes "--list") words)
-    else if bytes_eq word (codes "--diff") then (Diff, words)
-    else if bytes_eq word (codes "--list") then listing words
-    else (Format, word ∷ words)
+abbrev pub in_place : Task → Options
+in_place task = record { task = task; writing = InPlace }
+
+-- the options after `--list`, with it, and the words after them
+abbrev pub after_list : List (List ℕ) → Options × List (List ℕ)
+after_list [] = (replacing FormatAndName, [])
+after_list (word ∷ words) =
+    if bytes_eq word (codes "--check") then (replacing Check, words)
+    else if bytes_eq word (codes "--in-place") then (in_place FormatAndName, words)
+    else (replacing FormatAndName, word ∷ words)
+
+-- the options after `--in-place`, with it, and the words after them
+abbrev pub after_in_place : List (List ℕ) → Options × List (List ℕ)
+after_in_place [] = (in_place Format, [])
+after_in_place (word ∷ words) =
+    if bytes_eq word (codes "--list") then (in_place FormatAndName, words) else (in_place Format, word ∷ words)
+
+-- the options that the first words are, and the words after them
+abbrev pub options_of : List (List ℕ) → Options × List (List ℕ)
+options_of [] = (replacing Format, [])
+options_of (word ∷ words) =
+    if bytes_eq word (codes "--check") then (replacing Check, without (codes "--list") words)
+    else if bytes_eq word (codes "--diff") then (replacing Diff, words)
+    else if bytes_eq word (codes "--list") then after_list words
+    else if bytes_eq word (codes "--in-place") then after_in_place words
+    else (replacing Format, word ∷ words)
 
 -- whether the word begins with `-`
 abbrev pub is_option : List ℕ → Bool
@@ -62,47 +81,50 @@ first_option [] = None
 first_option (word ∷ words) = if is_option word then Some word else first_option words
 
 -- files of these names, none of which begins with `-`
-abbrev pub names_of : (option : Option (List ℕ)) → Task → (names : List (List ℕ)) → Asked
-names_of None task names = files task names
-names_of (Some option) task names = unexpected option
+abbrev pub names_of : (option : Option (List ℕ)) → Options → (names : List (List ℕ)) → Asked
+names_of None options names = files options names
+names_of (Some option) options names = unexpected option
 
 -- after `--`
-abbrev pub given_names : Task → List (List ℕ) → Asked
-given_names task [] = incomplete
-given_names task (name ∷ names) = files task (name ∷ names)
+abbrev pub given_names : Options → List (List ℕ) → Asked
+given_names options [] = incomplete
+given_names options (name ∷ names) = files options (name ∷ names)
 
 abbrev pub stream_alone : Task → (name : List ℕ) → (rest : List (List ℕ)) → Asked
 stream_alone task name [] = stream task name
 stream_alone task name (word ∷ words) = unexpected word
 
--- after `-`, which is the last word. The formatted text is written where names would be, so there is no list.
-abbrev pub stream_of : Task → (name dash : List ℕ) → (rest : List (List ℕ)) → Asked
-stream_of FormatAndName name dash rest = unexpected dash
-stream_of Format name dash rest = stream_alone Format name rest
-stream_of Check name dash rest = stream_alone Check name rest
-stream_of Diff name dash rest = stream_alone Diff name rest
+-- whether the task with a stream can be done so: it is no file that is written in place, and its formatted text is written where names would be
+abbrev pub fits_stream : Task → Writing → Bool
+fits_stream FormatAndName writing = false
+fits_stream task InPlace = false
+fits_stream task Replace = true
+
+-- after `-`, which is the last word
+abbrev pub stream_of : Options → (name dash : List ℕ) → (rest : List (List ℕ)) → Asked
+stream_of options name dash rest = if fits_stream options.task options.writing then stream_alone options.task name rest else unexpected dash
 
 -- after `--name`
-abbrev pub named : Task → List (List ℕ) → Asked
-named task [] = incomplete
-named task (name ∷ []) = incomplete
-named task (name ∷ dash ∷ rest) = if bytes_eq dash (codes "-") then stream_of task name dash rest else unexpected dash
+abbrev pub named : Options → List (List ℕ) → Asked
+named options [] = incomplete
+named options (name ∷ []) = incomplete
+named options (name ∷ dash ∷ rest) = if bytes_eq dash (codes "-") then stream_of options name dash rest else unexpected dash
 
 -- after the options
-abbrev pub subject_of : Task → List (List ℕ) → Asked
-subject_of task [] = nearest task
-subject_of task (word ∷ words) =
-    if bytes_eq word (codes "--") then given_names task words
-    else if bytes_eq word (codes "-") then stream_of task NAME.now word words
-    else if bytes_eq word (codes "--name") then named task words
-    else names_of (first_option (word ∷ words)) task (word ∷ words)
+abbrev pub subject_of : Options → List (List ℕ) → Asked
+subject_of options [] = nearest options
+subject_of options (word ∷ words) =
+    if bytes_eq word (codes "--") then given_names options words
+    else if bytes_eq word (codes "-") then stream_of options NAME.now word words
+    else if bytes_eq word (codes "--name") then named options words
+    else names_of (first_option (word ∷ words)) options (word ∷ words)
 
 abbrev pub request_of : List (List ℕ) → Asked
-request_of [] = nearest Format
+request_of [] = nearest (replacing Format)
 request_of (word ∷ words) =
     if bytes_eq word (codes "--help") || bytes_eq word (codes "-h") then help
     else if bytes_eq word (codes "--version") || bytes_eq word (codes "-V") then version
-    else subject_of (task_of (word ∷ words)).0 (task_of (word ∷ words)).1
+    else subject_of (options_of (word ∷ words)).0 (options_of (word ∷ words)).1
 
 abbrev pub shown_option : Option (Bor (List ℕ)) → Option (List ℕ)
 shown_option option = option_map (λ o. o.now) option
@@ -110,8 +132,8 @@ shown_option option = option_map (λ o. o.now) option
 abbrev pub asked : Request → Asked
 asked requests.Help = help
 asked requests.Version = version
-asked (requests.Files task names) = files task (texts names.now)
-asked (requests.Nearest task) = nearest task
+asked (requests.Files options names) = files options (texts names.now)
+asked (requests.Nearest options) = nearest options
 asked (requests.Stream task name) = stream task name.now
 
 -- the argument that doesn't fit, if none is missing

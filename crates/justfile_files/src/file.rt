@@ -108,7 +108,7 @@ fn apply<D: Folder, O: Output>(
     };
     replace(alloc, task, folder, name, source, text)?;
     match write_report(&report, output) {
-        Ok(()) => Ok(task.is_in_place()),
+        Ok(()) => Ok(task.changes_files()),
         Err(error) => Err(Failure::Writing(error)),
     }
 }
@@ -125,7 +125,7 @@ fn replace<D: Folder>(
     ensures { ReplaceResult task name.now source.now text.now
         (D.contents folder.old) (D.contents folder.new) result }
 {
-    if !task.is_in_place() {
+    if !task.changes_files() {
         return Ok(());
     }
     match folder.replace(alloc, name, source, text) {

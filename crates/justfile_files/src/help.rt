@@ -4,11 +4,12 @@
 pub const HELP: &str = "\
 Formats justfiles.
 
-usage: justfiles [--check | --diff | --list] [--] [FILE | FOLDER]..
+usage: justfiles [--check | --diff | --list] [--in-place] [--] [FILE | FOLDER]..
        justfiles [--check | --diff] [--name FILE] -
 
-without an option  formats the files in place
+without an option  formats the files: a new one takes the place of each that it changes
 --list             does that, and writes the name of each file that it changes
+--in-place         writes into the files themselves, which keep their access lists and attributes
 --check            writes the name of each file that isn't formatted
 --diff             writes what formatting would change, as `patch -p0` takes it
 --name FILE        the name of standard input in messages
@@ -18,6 +19,7 @@ without an option  formats the files in place
 For a FOLDER it takes the justfiles in it and below: each `justfile`, `.justfile` and `*.just`, in
 any case, but for `.git`, links and mounts. Without a FILE or FOLDER it takes the justfile that
 `just` would find, and for - standard input, whose formatted text it writes to standard output.
-Names that begin with - come after --. With --check, --list changes nothing. The status is 0 if all
-files are formatted, 1 if one isn't, 2 if one is no justfile, and 3 if anything else fails.
+Names that begin with - come after --. With --check, --list changes nothing; --in-place goes with
+--list or alone. The status is 0 if all files are formatted, 1 if one isn't, 2 if one is no justfile,
+and 3 if anything else fails.
 ";

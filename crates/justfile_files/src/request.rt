@@ -1,6 +1,6 @@
 //! What the arguments ask for.
 ghost use Rattle.std.specs.Prelude.{◌≡◌, IfOk, Some, string_bytes};
-ghost use Rattle.justfile_files.specs.Request.{first_option, given_names, is_in_place, is_option, listing, misuse_lines, named, names_of, request_of, shown_misuse, shown_option, shown_request, stream_of, subject_of, task_of, texts, what_is_wrong, without};
+ghost use Rattle.justfile_files.specs.Request.{after_in_place, after_list, changes_files, first_option, fits_stream, given_names, in_place, is_option, misuse_lines, named, names_of, options_of, replacing, request_of, shown_misuse, shown_option, shown_request, stream_of, subject_of, texts, what_is_wrong, without};
 
 use crate::visible::visible_name;
 use std::alloc::{AllocError, Global};
@@ -21,6 +21,22 @@ pub enum Task {
     Diff,
 }
 
+/// How a file gets its formatted text.
+#[derive(Clone, Copy, Debug, PartialEq, Eq)]
+pub enum Writing {
+    /// A new file takes its place, where nothing is lost by that, as far as it can be seen.
+    Replace,
+    /// The text is written into the file itself, which keeps all that it has besides.
+    InPlace,
+}
+
+/// What is done with each file, and how.
+#[derive(Clone, Copy, Debug)]
+pub struct Options {
+    pub task: Task,
+    pub writing: Writing,
+}
+
 /// What the arguments ask for.
 #[derive(Clone, Copy, Debug)]
 pub enum Request<'a> {
@@ -29,9 +45,9 @@ pub enum Request<'a> {
     /// Which version it is.
     Version,
     /// The task with the files and folders of these names. There is at least one.
-    Files(Task, &'a [String]),
+    Files(Options, &'a [String]),
     /// The task with the justfile that `just` would find.
-    Nearest(Task),
+    Nearest(Options),
     /// The task with standard input, which has this name in messages.
     Stream(Task, &'a str),
 }
@@ -47,8 +63,8 @@ pub enum Misuse<'a> {
 
 impl Task {
     /// Whether files are replaced by their formatted texts.
-    pub fn is_in_place(self) -> bool
-        ensures { result ≡ is_in_place self }
+    pub fn changes_files(self) -> bool
+        ensures { result ≡ changes_files self }
     {
         match self {
             Task::Format => true,
@@ -61,8 +77,8 @@ impl Task {
 
 /// Returns what the arguments ask for, which have one of the forms `--help`, `--version`,
 /// `OPTIONS NAME..`, `OPTIONS -- NAME..`, `OPTIONS` and `OPTIONS [--name FILE] -`. The options are
-/// `--check`, `--diff` or `--list`, or `--check` and `--list`. A name that begins with `-` comes
-/// after `--`.
+/// `--check`, `--diff`, `--list` or `--in-place`, or `--list` and one of `--check` and `--in-place`.
+/// A name that begins with `-` comes after `--`.
 ///
 /// # Errors
 ///
@@ -71,7 +87,7 @@ pub fn request_in(arguments: &[String]) -> Result<Request<'_>, Misuse<'_>>
     ensures { shown_request result ≡ request_of (texts arguments.now) }
 {
     let [first, ..] = arguments else {
-        return Ok(Request::Nearest(Task::Format));
+        return Ok(Request::Nearest(replacing(Task::Format)));
     };
     if first.as_str() == "--help" || first.as_str() == "-h" {
         return Ok(Request::Help);
@@ -79,39 +95,77 @@ pub fn request_in(arguments: &[String]) -> Result<Request<'_>, Misuse<'_>>
     if first.as_str() == "--version" || first.as_str() == "-V" {
         return Ok(Request::Version);
     }
-    let (task, words) = task_in(arguments);
-    subject_in(task, words)
+    let (options, words) = options_in(arguments);
+    subject_in(options, words)
 }
 
-/// Returns the task that the first words ask for, and the words after its options.
-fn task_in(words: &[String]) -> (Task, &[String])
-    ensures task { result.0 ≡ (task_of (texts words.now)).0 }
-    ensures rest { texts result.1.now ≡ (task_of (texts words.now)).1 }
+/// Returns the options to do a task by replacing files, if it changes any.
+fn replacing(task: Task) -> Options
+    ensures { result ≡ replacing task }
+{
+    Options {
+        task,
+        writing: Writing::Replace,
+    }
+}
+
+/// Returns the options to do a task by writing into the files themselves.
+fn in_place(task: Task) -> Options
+    ensures { result ≡ in_place task }
+{
+    Options {
+        task,
+        writing: Writing::InPlace,
+    }
+}
+
+/// Returns the options that the first words are, and the words after them.
+fn options_in(words: &[String]) -> (Options, &[String])
+    ensures options { result.0 ≡ (options_of (texts words.now)).0 }
+    ensures rest { texts result.1.now ≡ (options_of (texts words.now)).1 }
 {
     let [first, rest @ ..] = words else {
-        return (Task::Format, words);
+        return (replacing(Task::Format), words);
     };
     if first.as_str() == "--check" {
-        return (Task::Check, without(rest, "--list"));
+        return (replacing(Task::Check), without(rest, "--list"));
     }
     if first.as_str() == "--diff" {
-        return (Task::Diff, rest);
+        return (replacing(Task::Diff), rest);
     }
     if first.as_str() == "--list" {
-        return listing_in(rest);
+        return options_after_list(rest);
     }
-    (Task::Format, words)
+    if first.as_str() == "--in-place" {
+        return options_after_in_place(rest);
+    }
+    (replacing(Task::Format), words)
 }
 
-/// Returns the task after `--list`, and the words after its options: with `--check` nothing is
-/// changed.
-fn listing_in(words: &[String]) -> (Task, &[String])
-    ensures task { result.0 ≡ (listing (texts words.now)).0 }
-    ensures rest { texts result.1.now ≡ (listing (texts words.now)).1 }
+/// Returns the options that `--list` and the words after it are, and the words after the options:
+/// with `--check` nothing is changed.
+fn options_after_list(words: &[String]) -> (Options, &[String])
+    ensures options { result.0 ≡ (after_list (texts words.now)).0 }
+    ensures rest { texts result.1.now ≡ (after_list (texts words.now)).1 }
 {
     match words {
-        [first, rest @ ..] if first.as_str() == "--check" => (Task::Check, rest),
-        _ => (Task::FormatAndName, words),
+        [first, rest @ ..] if first.as_str() == "--check" => (replacing(Task::Check), rest),
+        [first, rest @ ..] if first.as_str() == "--in-place" => {
+            (in_place(Task::FormatAndName), rest)
+        }
+        _ => (replacing(Task::FormatAndName), words),
+    }
+}
+
+/// Returns the options that `--in-place` and the words after it are, and the words after the
+/// options.
+fn options_after_in_place(words: &[String]) -> (Options, &[String])
+    ensures options { result.0 ≡ (after_in_place (texts words.now)).0 }
+    ensures rest { texts result.1.now ≡ (after_in_place (texts words.now)).1 }
+{
+    match words {
+        [first, rest @ ..] if first.as_str() == "--list" => (in_place(Task::FormatAndName), rest),
+        _ => (in_place(Task::Format), words),
     }
 }
 
@@ -126,65 +180,66 @@ fn without<'a>(words: &'a [String], option: &str) -> &'a [String]
 }
 
 /// Returns what the words after the options ask for.
-fn subject_in(task: Task, words: &[String]) -> Result<Request<'_>, Misuse<'_>>
-    ensures { shown_request result ≡ subject_of task (texts words.now) }
+fn subject_in(options: Options, words: &[String]) -> Result<Request<'_>, Misuse<'_>>
+    ensures { shown_request result ≡ subject_of options (texts words.now) }
 {
     let [first, rest @ ..] = words else {
-        return Ok(Request::Nearest(task));
+        return Ok(Request::Nearest(options));
     };
     if first.as_str() == "--" {
-        return given_in(task, rest);
+        return given_in(options, rest);
     }
     if first.as_str() == "-" {
-        return stream_in(task, NAME, first.as_str(), rest);
+        return stream_in(options, NAME, first.as_str(), rest);
     }
     if first.as_str() == "--name" {
-        return named_in(task, rest);
+        return named_in(options, rest);
     }
     match option_in(words) {
         Some(option) => Err(Misuse::Unexpected(option)),
-        None => Ok(Request::Files(task, words)),
+        None => Ok(Request::Files(options, words)),
     }
 }
 
 /// Returns what the words after `--` ask for.
-fn given_in(task: Task, names: &[String]) -> Result<Request<'_>, Misuse<'_>>
-    ensures { shown_request result ≡ given_names task (texts names.now) }
+fn given_in(options: Options, names: &[String]) -> Result<Request<'_>, Misuse<'_>>
+    ensures { shown_request result ≡ given_names options (texts names.now) }
 {
     if names.is_empty() {
         return Err(Misuse::Incomplete);
     }
-    Ok(Request::Files(task, names))
+    Ok(Request::Files(options, names))
 }
 
 /// Returns what the words after `--name` ask for.
-fn named_in(task: Task, words: &[String]) -> Result<Request<'_>, Misuse<'_>>
-    ensures { shown_request result ≡ named task (texts words.now) }
+fn named_in(options: Options, words: &[String]) -> Result<Request<'_>, Misuse<'_>>
+    ensures { shown_request result ≡ named options (texts words.now) }
 {
     let [name, dash, rest @ ..] = words else {
         return Err(Misuse::Incomplete);
     };
     if dash.as_str() == "-" {
-        return stream_in(task, name.as_str(), dash.as_str(), rest);
+        return stream_in(options, name.as_str(), dash.as_str(), rest);
     }
     Err(Misuse::Unexpected(dash.as_str()))
 }
 
 /// Returns that standard input is asked for, if nothing is left after the word that stands for it.
-/// The formatted text is written where names would be, so there is no list.
+/// It is no file that is written in place, and its formatted text is written where names would be,
+/// so there is no list.
 fn stream_in<'a>(
-    task: Task,
+    options: Options,
     name: &'a str,
     dash: &'a str,
     rest: &'a [String],
 ) -> Result<Request<'a>, Misuse<'a>>
-    ensures { shown_request result ≡ stream_of task name.now dash.now (texts rest.now) }
+    ensures { shown_request result ≡ stream_of options name.now dash.now (texts rest.now) }
 {
-    if task == Task::FormatAndName {
+    if options.task == Task::FormatAndName || options.writing == Writing::InPlace {
         return Err(Misuse::Unexpected(dash));
     }
     match rest {
-        [] => Ok(Request::Stream(task, name)),
+        [] => Ok(Request::Stream(options.task, name)),
         [next, ..] => Err(Misuse::Unexpected(next.as_str())),
     }
 }

@@ -14,7 +14,7 @@ use crate::request::Task;
 use std::alloc::Global;
 
 /// Does a task with the files that names lead to, which are those of the justfiles of a folder and
-/// below if the name is one of a folder: formats them in place, and writes the name of each that it
+/// below if the name is one of a folder: formats the files, and writes the name of each that it
 /// changes (`--list`) or nothing; or writes the name of each that isn't formatted (`--check`), or a
 /// diff to its formatted text (`--diff`). If it fails for a file, it tells why and goes on with the
 /// next one. If a report can't be written, it stops.

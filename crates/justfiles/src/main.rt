@@ -1,4 +1,4 @@
-//! Formats justfiles in place, or tells which ones aren't formatted, or how they would change.
+//! Formats justfiles, or tells which ones aren't formatted, or how they would change.
 #![tactic(auto)]
 
 mod commit;
@@ -9,7 +9,7 @@ use commit::COMMIT;
 use justfile::Justfile;
 use justfile_files::folder::Folder;
 use justfile_files::help::HELP;
-use justfile_files::request::{Request, Task, misuse_lines, request_in};
+use justfile_files::request::{Options, Request, Task, misuse_lines, request_in};
 use justfile_files::run::run;
 use justfile_files::visible::visible_name;
 use std::io;
@@ -38,12 +38,12 @@ fn run_on<D: Folder>(rt: &HostRuntime, task: Task, names: &[String], folder: &mu
 /// that are left are an error.
 fn run_on_files(
     rt: &HostRuntime,
-    task: Task,
+    options: Options,
     names: &[String],
     garbled: &[String],
 ) -> io::Result<u8> {
-    let mut folder = FileSystem::new(rt, garbled);
-    let status = run_on(rt, task, names, &mut folder);
+    let mut folder = FileSystem::new(rt, garbled, options.writing);
+    let status = run_on(rt, options.task, names, &mut folder);
     for path in folder.leftovers() {
         let path = visible_name(rt.alloc(), path.as_str())?;
         eprintln!(rt; "error: {path}: can't be removed")?;
@@ -56,9 +56,9 @@ fn run_on_files(
 }
 
 /// Does a task with the justfile that `just` would find, and returns the status.
-fn run_on_nearest(rt: &HostRuntime, task: Task) -> io::Result<u8> {
+fn run_on_nearest(rt: &HostRuntime, options: Options) -> io::Result<u8> {
     let error = match find_justfile(rt) {
-        Ok(path) => return run_on_files(rt, task, &[path], &[]),
+        Ok(path) => return run_on_files(rt, options, &[path], &[]),
         Err(error) => error,
     };
     match error {
@@ -93,8 +93,8 @@ fn answer(rt: &HostRuntime, request: Request<'_>, garbled: &[String]) -> io::Res
         Request::Version => {
             println!(rt; "justfiles, commit {COMMIT}, for the language of just 1.58.0")?;
         }
-        Request::Files(task, names) => return run_on_files(rt, task, names, garbled),
-        Request::Nearest(task) => return run_on_nearest(rt, task),
+        Request::Files(options, names) => return run_on_files(rt, options, names, garbled),
+        Request::Nearest(options) => return run_on_nearest(rt, options),
         Request::Stream(task, name) => return run_on_stream(rt, task, name),
     }
     Ok(0)

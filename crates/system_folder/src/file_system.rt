@@ -5,6 +5,7 @@ use crate::below::{contains, files_below};
 use crate::in_place::{COPY_ENDING, UNFINISHED};
 use crate::replace::replace_file;
 use justfile_files::folder::{Folder, ReplaceError};
+use justfile_files::request::Writing;
 use std::alloc::{AllocError, Global};
 use std::fs;
 use std::io::{self, Error, ErrorKind};
@@ -19,6 +20,8 @@ pub struct FileSystem<'a> {
     rt: &'a HostRuntime,
     /// Names that stand for others, which aren't UTF-8.
     garbled: &'a [String],
+    /// How files get other texts.
+    writing: Writing,
     /// Files that were made beside others and couldn't be removed.
     leftovers: Vec<String>,
 }
@@ -26,10 +29,11 @@ pub struct FileSystem<'a> {
 impl<'a> FileSystem<'a> {
     /// Returns the file system that the runtime gives access to. Files with garbled names can't be
     /// read.
-    pub fn new(rt: &'a HostRuntime, garbled: &'a [String]) -> Self {
+    pub fn new(rt: &'a HostRuntime, garbled: &'a [String], writing: Writing) -> Self {
         FileSystem {
             rt,
             garbled,
+            writing,
             leftovers: Vec::new(rt.alloc()),
         }
     }
@@ -107,6 +111,13 @@ impl Folder for FileSystem<'_> {
         source: &str,
         text: &str,
     ) -> Result<(), ReplaceError> {
-        replace_file(self.rt, name, source, text, &mut self.leftovers)
+        replace_file(
+            self.rt,
+            self.writing,
+            name,
+            source,
+            text,
+            &mut self.leftovers,
+        )
     }
 }

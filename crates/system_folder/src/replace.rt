@@ -1,10 +1,12 @@
-//! Replacing a file by a new one, where nothing is lost by that, and otherwise writing it in place.
+//! Replacing a file by a new one, where that is wanted and nothing is lost by it, and otherwise
+//! writing it in place.
 
 use crate::held_folder::{HeldFolder, Place, name_of};
 use crate::in_place::write_in_place;
 use crate::new_file::{create_beside, remove_made};
 use crate::opened::Opened;
 use justfile_files::folder::ReplaceError;
+use justfile_files::request::Writing;
 use std::fs::{self, Files, Metadata, OpenFile, OpenOptions};
 use std::io::{self, Error, ErrorKind, Write};
 use std::os::unix::fs::MetadataExt;
@@ -13,6 +15,7 @@ use std::os::unix::fs::MetadataExt;
 /// is noted.
 pub(crate) fn replace_file(
     rt: &HostRuntime,
+    writing: Writing,
     name: &str,
     source: &str,
     text: &str,
@@ -33,7 +36,7 @@ pub(crate) fn replace_file(
         seen: &seen,
     };
     opened.check_unchanged(rt)?;
-    if replace_whole(rt, opened, text, leftovers)? {
+    if writing == Writing::Replace && replace_whole(rt, opened, text, leftovers)? {
         return Ok(());
     }
     write_in_place(rt, opened, text, leftovers)
