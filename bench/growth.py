@@ -7,13 +7,13 @@ peak of memory and the processor seconds of the shorter text, and how many times
 size takes; and at last where these ratios are the greatest.
 
 Instructions are those of one run on 100 and on 200 KB, as valgrind counts them. Memory and time are the
-least of seven runs on 1 and on 2 MB. The start of the program is included.
+least of seven runs on 1 and on 2 MB. The start of the program is included. `-` is what takes too long (ratio.py).
 """
 import os
 import shlex
 import sys
 
-from ratio import COUNTED, RUNS, TIMED, counted, kinds, run, write
+from ratio import COUNTED, TIMED, counted, greatest, kinds, least, quotient, repeat, run, shown, write
 
 WHAT = ("instructions", "memory", "time")
 
@@ -21,8 +21,8 @@ WHAT = ("instructions", "memory", "time")
 def measured(formatter, path, text, size):
     """The bytes of a text, and the memory in KB and the seconds that it takes."""
     write(path, text(size))
-    runs = [run(formatter, path) for _ in range(RUNS)]
-    return os.path.getsize(path), min(kilobytes for _, kilobytes in runs), min(seconds for seconds, _ in runs)
+    seconds, memory = (least(figures) for figures in zip(*repeat(lambda: run(formatter, path))))
+    return os.path.getsize(path), memory, seconds
 
 
 def growth(formatter, path, text):
@@ -34,8 +34,8 @@ def growth(formatter, path, text):
     size, memory, seconds = measured(formatter, path, text, TIMED)
     _, twice_memory, twice_seconds = measured(formatter, path, text, 2 * TIMED)
     os.remove(path)
-    ratios = (instructions[1] / instructions[0], twice_memory / memory, twice_seconds / max(seconds, 0.0001))
-    return (size, instructions[0], memory, seconds), ratios
+    pairs = ((instructions[1], instructions[0]), (twice_memory, memory), (twice_seconds, seconds))
+    return (size, instructions[0], memory, seconds), tuple(quotient(*pair) for pair in pairs)
 
 
 def main():
@@ -47,13 +47,13 @@ def main():
     found = {}
     for name, text in kinds().items():
         (size, instructions, memory, seconds), found[name] = growth(formatter, path, text)
-        more = found[name]
-        row = (name, f"{size:,}", f"{instructions:,}", more[0], memory / 1024, more[1], seconds, more[2])
-        print("| %s | %s | %s | %.2f | %.1f | %.2f | %.3f | %.2f |" % row, flush=True)
+        more = [shown(it, "%.2f") for it in found[name]]
+        first = (shown(instructions, "%d"), shown(quotient(memory, 1024), "%.1f"), shown(seconds, "%.3f"))
+        row = (name, f"{size:,}", first[0], more[0], first[1], more[1], first[2], more[2])
+        print("| %s | %s | %s | %s | %s | %s | %s | %s |" % row, flush=True)
     print()
     for at, what in enumerate(WHAT):
-        name = max(found, key=lambda name: found[name][at])
-        print("The most %s: %.2f times, on %s." % (what, found[name][at], name))
+        print("The most %s: %.2f times, on %s." % (what, *greatest(found, at)))
 
 
 if __name__ == "__main__":

@@ -7,12 +7,15 @@ one after the other, and prints a row for each: its bytes, and how many times th
 peak memory and processor time the formatter takes; and at last where these are the greatest.
 
 Instructions are those of one run on 100 KB, as valgrind counts them. Memory and time are the least of
-seven runs on 1 MB, which alternate between the two programs. The start of the programs is included.
+seven runs on 1 MB, which alternate between the two programs; memory is what GNU time tells. The start of the
+programs is included. Where a run takes more than a minute of a processor, or valgrind ten, the figure is `-`.
 """
 import os
 import random
 import re
+import resource
 import shlex
+import signal
 import subprocess
 import sys
 
@@ -23,6 +26,11 @@ from realistic import justfile
 RUNS = 7
 COUNTED = 100_000
 TIMED = 1_000_000
+# The most seconds of a processor that a run may take, and one that valgrind counts.
+MOST = 60
+MOST_COUNTED = 600
+# What the kernel ends a run by that takes more.
+OVER = (-signal.SIGXCPU, -signal.SIGKILL)
 
 
 def repeated(before, part, after, size):
@@ -78,27 +86,81 @@ def kinds():
     return found
 
 
-def run(command, path):
-    """The processor seconds and the peak of memory in KB of one run."""
+def limited(seconds):
+    """What limits the seconds of a processor of a child before it starts."""
+    return lambda: resource.setrlimit(resource.RLIMIT_CPU, (seconds, seconds + 1))
+
+
+def ended(command, code):
+    """Whether a run came to an end within its limit. Stops where it was no run of the program."""
+    if code == 127 or (code < 0 and code not in OVER):
+        sys.exit(f"{command[0]} ended by {code}")
+    return code not in OVER
+
+
+def seconds_of(command, path):
+    """The seconds of a processor of one run, or None if it takes too many."""
     child = os.fork()
     if child == 0:
         os.dup2(os.open(path, os.O_RDONLY), 0)
         os.dup2(os.open(os.devnull, os.O_WRONLY), 1)
         os.dup2(os.open(os.devnull, os.O_WRONLY), 2)
+        limited(MOST)()
         os.execvp(command[0], command)
     _, status, usage = os.wait4(child, 0)
-    code = os.waitstatus_to_exitcode(status)
-    if code < 0 or code == 127:
-        sys.exit(f"{command[0]} ended by {code}")
-    return usage.ru_utime + usage.ru_stime, usage.ru_maxrss
+    is_ended = ended(command, os.waitstatus_to_exitcode(status))
+    return usage.ru_utime + usage.ru_stime if is_ended else None
+
+
+def kilobytes_of(command, path):
+    """The peak of memory of one run in KB, or None if it takes too long.
+
+    GNU time starts it, since the peak of a child of Python is at least Python's own.
+    """
+    quiet = ["sh", "-c", 'exec "$@" >/dev/null 2>&1', "sh", *command]
+    words = ["/usr/bin/time", "--quiet", "--format=%M", "--output=/dev/stdout", *quiet]
+    with open(path, "rb") as file:
+        done = subprocess.run(words, stdin=file, stdout=subprocess.PIPE, preexec_fn=limited(MOST))
+    code = done.returncode if done.returncode < 128 else 128 - done.returncode
+    return int(done.stdout.split()[-1]) if ended(command, code) else None
+
+
+def run(command, path):
+    """The seconds of a processor and the peak of memory in KB of one run, each None if it takes too long."""
+    seconds = seconds_of(command, path)
+    return seconds, None if seconds is None else kilobytes_of(command, path)
 
 
 def counted(command, path):
-    """The instructions of one run."""
+    """The instructions of one run, or None if valgrind takes too long."""
     counting = ["valgrind", "--tool=callgrind", "--callgrind-out-file=/dev/null", *command]
     with open(path, "rb") as file:
-        done = subprocess.run(counting, stdin=file, stdout=subprocess.DEVNULL, stderr=subprocess.PIPE)
-    return int(re.search(rb"Collected : (\d+)", done.stderr).group(1))
+        pipes = {"stdin": file, "stdout": subprocess.DEVNULL, "stderr": subprocess.PIPE}
+        done = subprocess.run(counting, **pipes, preexec_fn=limited(MOST_COUNTED))
+    found = re.search(rb"Collected : (\d+)", done.stderr)
+    return int(found.group(1)) if found and ended(command, done.returncode) else None
+
+
+def least(figures):
+    """The least of some figures, or None if one is missing."""
+    figures = list(figures)
+    return None if None in figures else min(figures)
+
+
+def quotient(figure, other):
+    """How many times the other figure this one is, or None if one of them is missing."""
+    return None if None in (figure, other) else figure / max(other, 0.0001)
+
+
+def shown(figure, form):
+    """A figure in a table."""
+    return "-" if figure is None else form % figure
+
+
+def repeat(action):
+    """Seven results of an action, or one with what is missing."""
+    first = action()
+    return [first] if None in first else [first, *(action() for _ in range(RUNS - 1))]
 
 
 def write(path, text):
@@ -109,13 +171,19 @@ def write(path, text):
 def ratios(original, formatter, path, text):
     """The bytes of the longer text, and the ratios of instructions, memory and time."""
     write(path, text(COUNTED))
-    instructions = counted(formatter, path) / counted(original, path)
+    instructions = quotient(counted(formatter, path), counted(original, path))
     write(path, text(TIMED))
-    runs = [(run(original, path), run(formatter, path)) for _ in range(RUNS)]
-    seconds, memory = ([min(turn[program][what] for turn in runs) for program in (0, 1)] for what in (0, 1))
+    runs = repeat(lambda: (*run(original, path), *run(formatter, path)))
+    seconds, memory, own_seconds, own_memory = (least(figures) for figures in zip(*runs))
     size = os.path.getsize(path)
     os.remove(path)
-    return size, (instructions, memory[1] / memory[0], seconds[1] / max(seconds[0], 0.0001))
+    return size, (instructions, quotient(own_memory, memory), quotient(own_seconds, seconds))
+
+
+def greatest(found, at):
+    """The greatest known figure of a column, and the name of its row."""
+    name = max((name for name in found if found[name][at] is not None), key=lambda name: found[name][at])
+    return found[name][at], name
 
 
 def main():
@@ -127,11 +195,11 @@ def main():
     found = {}
     for name, text in kinds().items():
         size, found[name] = ratios(original, formatter, path, text)
-        print("| %s | %s | %.2f | %.2f | %.2f |" % (name, f"{size:,}", *found[name]), flush=True)
+        figures = (shown(it, "%.2f") for it in found[name])
+        print("| %s | %s | %s | %s | %s |" % (name, f"{size:,}", *figures), flush=True)
     print()
     for at, what in enumerate(("instructions", "memory", "time")):
-        name = max(found, key=lambda name: found[name][at])
-        print("The most %s: %.2f times those of the original, on %s." % (what, found[name][at], name))
+        print("The most %s: %.2f times those of the original, on %s." % (what, *greatest(found, at)))
 
 
 if __name__ == "__main__":
