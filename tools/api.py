@@ -5,6 +5,7 @@
   cases, its methods and the traits that it has; of a trait its methods; functions, constants and aliases. With each
   stands its doc comment, a method's and a field's up to the first full stop.
 - Each kind of errors with its message, as `Messages.antt` of `justfile_token` defines it.
+- Each law, with its whole doc comment, and each crate, with the first paragraph of its.
 
 Without --write it prints what differs from the file, and ends with 1 if something does; so a public name that is
 missing in the file is told. It also tells public items that have no doc comment. The gate of documents, documents.py,
@@ -23,15 +24,16 @@ TARGET = TOP / "docs/API.md"
 
 # The crates that callers name beside `justfile_syntax`, in the order of docs/LIBRARY.md.
 FOR_CALLERS = """
-    justfile_survey justfile_references justfile_mentions justfile_builtins justfile_lines text_edits message_stream
-    line_diff
+    justfile_survey justfile_references justfile_mentions justfile_builtins justfile_problems justfile_lines text_edits
+    message_stream line_diff
 """.split()
 # Traits whose impls tell a caller nothing, or are told by the head of the page.
 COMMON_TRAITS = {"Drop", "TryClone", "WriteTo", "Model"}
 HEAD = """# Reference
 
-Written by `tools/api.py --write` from the sources: the modules of `justfile_syntax`, then the crates for other
-callers, then the errors. [LIBRARY.md](LIBRARY.md) is where to begin. A contract is in the source, above the body.
+Written by `tools/api.py --write` from the sources: the modules of `justfile_syntax`, the crates for other callers, the
+errors, the laws, and all crates. [LIBRARY.md](LIBRARY.md) is where to begin. A contract is in the source, above the
+body.
 
 What takes memory is passed an allocator, `alloc`, and returns an error if there is none. Types that hold values have
 `clone(&self, alloc)` for `Clone`.
@@ -270,6 +272,39 @@ def page():
     yield ""
     for kind, message in messages():
         yield f"- `{kind}`: {message}"
+    yield ""
+    yield "## Laws"
+    yield ""
+    yield "Functions that do nothing, whose contracts are statements about the definitions."
+    yield ""
+    for name, law in laws():
+        yield f"- `{name}`: {law.doc}"
+    yield ""
+    yield "## Crates"
+    yield ""
+    yield "In the order of `crates.txt`: each after those that it uses."
+    yield ""
+    for name, doc in crates():
+        yield f"- `{name}`: {doc}"
+
+
+def laws():
+    """Each law, by its name in `justfile_syntax::laws` or in a table's crate, in the order of names."""
+    pairs = next(pairs for name, _, pairs in modules() if name == "laws")
+    pairs = [*pairs, ("justfile_vocabulary", "all_keywords"), ("justfile_vocabulary", "all_attribute_kinds")]
+    for crate, it in sorted(pairs, key=lambda pair: pair[1].split(" as ")[-1]):
+        name, _, alias = it.partition(" as ")
+        yield alias or name, named(crate, name)
+
+
+def crates():
+    """Each crate with the first paragraph of its doc comment."""
+    for line in (TOP / "crates.txt").read_text().splitlines():
+        name = line.partition(":")[0].split()[0]
+        root = next(file for it in ("lib", "main") if (file := CRATES / name / f"src/{it}.rt").exists())
+        doc = re.match(r"(?://!.*\n)+", root.read_text()).group(0)
+        paragraph = re.split(r"^//!\s*$", doc, maxsplit=1, flags=re.M)[0]
+        yield name, " ".join(it.strip() for it in re.findall(r"^//!(.*)$", paragraph, re.M))
 
 
 def of_others(root):
@@ -289,9 +324,9 @@ def passed_on(root, name, item):
 
 def problems():
     """Public items of the reference without a doc comment."""
-    for name, _, pairs in modules():
+    for _, _, pairs in modules():
         for crate, it in pairs:
-            item = None if name == "laws" else named(crate, it)
+            item = named(crate, it.partition(" as ")[0])
             if item is not None and not item.doc:
                 yield f"crates/{item.where}: {it} has no doc comment"
             for head, doc in item.methods if item else []:

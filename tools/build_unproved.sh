@@ -21,4 +21,4 @@ cd "$work"
     -mllvm -disable-machine-licm -mllvm -disable-postra-machine-licm -mllvm -sink-common-insts=false \
     -Xclang -fmerge-functions -mllvm -mergefunc-use-aliases -c -x ir module.ll -o module.o
 "$kit/bin/rattle-link" --target x86_64-unknown-linux-gnu --toolchain "$kit/toolchain" -o "$program" module.o \
-    "$kit/c/libos_c.a" "$kit/c/liblibc_c.a" >"$work/log" || { cat "$work/log" >&2; exit 1; }
+    "$kit/c/libos_c.a" "$kit/c/liblibc_c.a" >"$work/log" 2>&1 || { cat "$work/log" >&2; exit 1; }

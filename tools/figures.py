@@ -1,7 +1,6 @@
 """The figures of the documents: which ones are stated, and what the repository has.
 
-- The table of sizes, counted in the sources, and of times, which are those of docs/times.txt, and the longest chain of
-  crates by these.
+- The table of the whole repository in docs/PERFORMANCE.md, of sizes and of the times of docs/times.txt (sizes.py).
 - Counts in sentences: wrong bodies, crates, files that name a neighbour.
 - The map of docs/PROOFS.md: the lines of the folders that a row names, and how many of their files name a neighbour.
 - Times in sentences, each that stands soon after a command. A command has one time in all documents, and one that
@@ -11,19 +10,12 @@ Counts of rows aren't stated anywhere: the outputs of the programs that run rows
 """
 import re
 import textwrap
-from pathlib import Path
 from subprocess import run
 
-TOP = Path(__file__).resolve().parent.parent
-CRATES = TOP / "crates"
-SIZES = TOP / "docs/SIZES.md"
+from sizes import CRATES, NAMES, TOP, from_nothing, lines, longest_chain, measured, sizes, table
+
+PERFORMANCE = TOP / "docs/PERFORMANCE.md"
 PROOFS = TOP / "docs/PROOFS.md"
-TIMES = TOP / "docs/times.txt"
-PARTS = ("proof", "tests", "wrong bodies")
-LISTED = [line.partition(":") for line in (TOP / "crates.txt").read_text().splitlines() if ":" in line]
-# A static library has a word behind its name.
-BELOW = {name.split()[0]: rest.split() for name, _, rest in LISTED}
-NAMES = list(BELOW)
 
 WORDS = {word: count for count, word in enumerate("zero one two three four five six seven eight nine ten".split())}
 WORDS |= {"a": 1, "an": 1, "half a": 0.5}
@@ -34,120 +26,32 @@ SECONDS = {"second": 1, "minute": 60, "hour": 3600}
 SOON = 100
 
 
-# Sizes
+# Sizes and times
 
 
-def lines(files):
-    """How many lines of some files aren't blank."""
-    return sum(1 for path in files for line in path.read_text().split("\n") if line.strip())
-
-
-def sizes(crate):
-    """A crate's functions, and its lines of code, of tests, of definitions and of proofs."""
-    tests = [path for path in CRATES.glob(f"{crate}/src/**/*.rt") if "tests" in (*path.parts, path.stem)]
-    code = [path for path in CRATES.glob(f"{crate}/src/**/*.rt") if path not in tests]
-    function = re.compile(r'^\s*(?:pub(?:\([^)]*\))? )?(?:const |extern "C" )?fn \w', re.M)
-    functions = sum(len(function.findall(path.read_text())) for path in code)
-    specs, proofs = (CRATES.glob(f"{crate}/{folder}/**/*.antt") for folder in ("specs", "proofs"))
-    return [functions, *map(lines, (code, tests, specs, proofs))]
-
-
-def table(head, rows):
-    """A table of Markdown whose columns but the first are numbers."""
-    made = ["| " + " | ".join(head) + " |", "|---" + "|---:" * (len(head) - 1) + "|"]
-    for name, row in rows.items():
-        made.append(f"| {name if name == 'all' else f'`{name}`'} | {' | '.join(row)} |")
-    return "\n".join(made) + "\n"
-
-
-# Times
-
-
-def measured():
-    """How the times were measured, and the seconds on the clock and of the processor by crate and part."""
-    how, times = [], {}
-    for line in TIMES.read_text().splitlines():
-        if line.startswith("#"):
-            how.append(line.lstrip("# "))
-        elif line.strip():
-            crate, part, clock, cpu = line.split("\t")
-            times[crate, part] = (None if clock == "-" else float(clock), float(cpu))
-    return how[0], times
-
-
-def size_table(times):
-    """The sizes of each crate, and the processor's seconds of its proof, with its tests, and of its wrong bodies."""
-    rows, each = {}, {crate: sizes(crate) for crate in NAMES}
-    each["all"] = [sum(column) for column in zip(*each.values())]
-    for crate, (functions, code, tests, specs, proofs) in each.items():
-        proof, test, bodies = (seconds_of(crate, part, times) for part in PARTS)
-        sums = f"{code}{f' + {tests}' * (tests > 0)}", f"{proof}{f' + {test}' * bool(test)}"
-        rows[crate] = [str(functions), sums[0], str(specs), str(proofs), sums[1], bodies]
-    return table(("crate", "functions", "code", "definitions", "proofs", "s: proof", "s: wrong bodies"), rows)
-
-
-def seconds_of(crate, part, times):
-    """The processor's seconds of a part of a crate or of all of them, or nothing if it wasn't measured."""
-    of = [cpu for (name, it), (_, cpu) in times.items() if it == part and crate in (name, "all")]
-    return f"{sum(of):.0f}" if of else ""
-
-
-def from_nothing(crate, times):
-    """The processor's seconds that a crate takes with those below it; all crates with their tests and wrong bodies."""
-    if crate is None:
-        return sum(cpu for (_, part), (_, cpu) in times.items() if part in PARTS)
-    found, left = set(), [crate]
-    while left:
-        it = left.pop()
-        if it not in found:
-            found.add(it)
-            left.extend(below for below in BELOW[it] if below in BELOW)
-    return sum(times[it, "proof"][1] for it in found if (it, "proof") in times)
-
-
-def longest_chain(times):
-    """The processor's seconds of the longest chain of crates, the crates, and what of the last one ends the chain.
-    A proof and tests wait for the proofs of the crates below, and wrong bodies for both."""
-    proved, ends = {}, []
-    for crate in NAMES:
-        proof, tests, edits = (times.get((crate, part), (None, 0))[1] for part in PARTS)
-        before, chain = max((proved[it] for it in BELOW[crate] if it in proved), default=(0, []))
-        proved[crate] = (before + proof, [*chain, crate])
-        ends += [(*proved[crate], ""), (before + tests, [*chain, crate], ", by its tests")]
-        ends.append((before + max(proof, tests) + edits, [*chain, crate], ", with its wrong bodies" * (edits > 0)))
-    return max(ends, key=lambda end: end[0])
-
-
-def wrapped(text):
-    """A paragraph, in lines that documents.py lets pass."""
-    return textwrap.fill(text, 115, break_on_hyphens=False)
-
-
-def chain_text(times):
-    seconds, chain, end = longest_chain(times)
-    names = ", ".join(f"`{it}`" for it in chain)
-    return wrapped(f"The longest chain of crates takes {seconds / 60:.0f} minutes of a processor: {names}{end}.")
+def whole():
+    """The table of the whole repository: its sizes, the gate's time on the clock and of the processor, the longest
+    chain."""
+    functions, code, tests, specs, proofs = (sum(column) for column in zip(*map(sizes, NAMES)))
+    times = measured()[1]
+    clock, cpu = times["all", "clock"]
+    row = (len(NAMES), functions, code + tests, specs, proofs, clock, cpu, longest_chain(times)[0])
+    head = ("crates", "functions", "code", "definitions", "proofs")
+    head += ("s: the gate on the clock", "s: of the processor", "s: the longest chain")
+    return table(head, [[f"{it:.0f}" for it in row]])
 
 
 def written(write):
-    """The table and the sentences on times, as SIZES has them; with `write` they are written."""
-    how, times = measured()
-    text = SIZES.read_text()
-    old = re.compile(r"^\| crate .*\n(?:\|.*\n)+", re.M).search(text).group(0)
-    made = text.replace(old, size_table(times))
-    made = re.sub(r"(?<=\n\n)Measured: (.+\n)*", lambda _: wrapped(f"Measured: {how}") + "\n", made)
-    whole = "The whole run took {:,.0f} seconds on the clock and {:,.0f} of the processor".format(*times["all", "clock"])
-    made = re.sub(r"The whole run took [\d,]+ seconds on the clock and [\d,]+ of the processor", whole, made)
-    chain = r"(?<=\n\n)The longest chain of crates takes(.+\n)*.+"
-    made, count = re.subn(chain, lambda _: chain_text(times), made)
-    if count != 1:
-        yield "docs/SIZES.md: no paragraph begins with 'The longest chain of crates takes'"
-    if made == text:
-        return
-    if write:
-        SIZES.write_text(made)
-    else:
-        yield "docs/SIZES.md: its figures are not those of the crates and of docs/times.txt: --write writes them"
+    """The table and the sentence on times, as PERFORMANCE has them; with `write` they are written."""
+    text = PERFORMANCE.read_text()
+    old = re.compile(r"^\| crates .*\n(?:\|.*\n)+", re.M).search(text).group(0)
+    made = text.replace(old, whole())
+    how = textwrap.fill(f"Measured: {measured()[0]}.", 115, break_on_hyphens=False)
+    made = re.sub(r"(?<=\n\n)Measured: (.+\n)*", lambda _: how + "\n", made)
+    if made != text and write:
+        PERFORMANCE.write_text(made)
+    elif made != text:
+        yield "docs/PERFORMANCE.md: its figures are not those of the crates and of docs/times.txt: --write writes them"
 
 
 # The map of the proofs

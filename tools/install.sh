@@ -1,10 +1,17 @@
 #!/bin/sh
-# Builds the programs from this checkout without proving them, and installs them in PREFIX/bin: install.sh [PREFIX]
+# Builds programs from this checkout without proving them, and installs them in PREFIX/bin: install.sh [--server] [PREFIX]
 #
-# PREFIX is ~/.local if none is given. The programs are justfmt, justfiles and justfile_server.
-# They are compiled as proved programs are (build_unproved.sh), from the sources that `rt ci` proves:
-# from a copy in which commit.rt has the commit, which --version writes.
+# PREFIX is ~/.local if none is given. The programs are justfmt and justfiles, and with --server justfile_server, too.
+# They are compiled as proved programs are (build_unproved.sh), from the sources that `rt ci` proves: from a copy in
+# which commit.rt has the commit, which --version writes. Each takes a minute or two of a processor: half of that the
+# kit takes for the code of std and of the crates, half LLVM.
 set -eu
+programs='justfmt justfiles'
+if [ "${1-}" = --server ]; then
+    programs="$programs justfile_server"
+    shift
+fi
+case ${1-} in -*) echo "install.sh: unexpected argument: $1: install.sh [--server] [PREFIX]" >&2; exit 2 ;; esac
 prefix=${1:-$HOME/.local}
 top=$(cd "$(dirname "$0")/.." && pwd)
 command -v rt >/dev/null || { echo 'install.sh: rt is not on PATH: add bin of the kit to it' >&2; exit 2; }
@@ -19,27 +26,29 @@ mkdir "$work/copy"
 tar -C "$top" --exclude=out -cf - crates crates.txt tools | tar -C "$work/copy" -xf -
 sed -i "s/^pub const COMMIT: .*/pub const COMMIT: \&str = \"$commit\";/" "$work"/copy/crates/*/src/commit.rt
 
-programs='justfmt justfiles justfile_server'
+echo "Compiling $programs of commit $commit with $(rt version), and proving nothing again."
+echo "Each takes a minute or two of a processor, and 1 GB of memory. They go to $prefix/bin."
 running=
 for program in $programs; do
-    echo "building $program with $(rt version), in a minute or two"
-    "$work/copy/tools/build_unproved.sh" "$program" "$work/$program" &
+    { "$work/copy/tools/build_unproved.sh" "$program" "$work/$program" && echo "built $program"; } &
     if [ "$(nproc)" -gt 2 ]; then running="$running $!"; else wait $!; fi
 done
 for one in $running; do wait "$one"; done
 
 [ "$(printf 'a:=b' | "$work/justfmt")" = 'a := b' ] || { echo 'install.sh: justfmt does not format' >&2; exit 1; }
-for program in justfiles justfile_server; do
-    case $("$work/$program" --version </dev/null) in
+for program in $programs; do
+    [ "$program" = justfmt ] || case $("$work/$program" --version </dev/null) in
     "$program, commit $commit, "*) ;;
     *) echo "install.sh: $program does not tell its commit" >&2; exit 1 ;;
     esac
-done
-for program in $programs; do
     mkdir -p "$prefix/bin"
     install -m 755 "$work/$program" "$prefix/bin/$program"
     echo "installed $prefix/bin/$program"
 done
-echo "Compiled, and not proved again: the sources are those of commit $commit."
-echo 'To prove them: rt ci, or rt run in the folder of each, as crates/justfmt (README.md, "Check it").'
-case ":$PATH:" in *":$prefix/bin:"*) ;; *) echo "$prefix/bin is not on your PATH" ;; esac
+times >"$work/times"
+awk 'NR == 2 { gsub(/[ms]/, " "); printf "It took %d seconds of a processor.\n", 60 * $1 + $2 + 60 * $3 + $4 }' "$work/times"
+echo 'To prove what was installed: rt ci, or rt run in the folder of each, as crates/justfmt (README.md, "Check it").'
+case ":$PATH:" in
+*":$prefix/bin:"*) ;;
+*) printf '%s/bin is not on your PATH. To put it there:\n    export PATH="%s/bin:$PATH"\n' "$prefix" "$prefix" ;;
+esac

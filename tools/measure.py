@@ -2,7 +2,7 @@
 """Runs the gate and writes what it took to docs/times.txt: measure.py [--to FILE] [COMMAND..]
 
 COMMAND is `rt ci` if there is none. Run it from nothing, on a clean checkout and a machine that does nothing else, and
-then `tools/documents.py --write`, which writes the table of docs/SIZES.md.
+then `tools/documents.py --write`, which writes the table of docs/PERFORMANCE.md.
 
 The processes below the command are looked at twice a second. A crate's part is its proof, its tests with the runs of
 its program, or its wrong bodies: its seconds of the processor are those of its processes, and its seconds on the clock
@@ -18,7 +18,7 @@ import time
 from pathlib import Path
 
 sys.dont_write_bytecode = True
-from figures import NAMES, PARTS, TIMES  # noqa: E402
+from sizes import NAMES, PARTS, TIMES  # noqa: E402
 
 PAUSE = 0.5
 TICKS = os.sysconf("SC_CLK_TCK")

@@ -1,14 +1,15 @@
 #!/usr/bin/env python3
-"""Checks the tables of docs/CLAIMS.md under "What you have to trust", or writes their last column with --write.
+"""Checks the lists of docs/CLAIMS.md under "What you have to trust", or writes their counts with --write.
 
 What a statement rests on is found by name: from the definitions that the clauses of public calls cite, on to all that
-these are made of. Each table is for a group of calls, and lists the files with definitions that the tables before it
-don't have. A row's last column is the number of the lines of these definitions in its files, comments aside, rounded
-up to ten. Files without a path are those of `justfile_model`.
+these are made of. Each list is for a group of calls, and has the files with definitions that the lists before it
+don't have. A row's count is the number of the lines of these definitions in its files, comments aside, rounded up to
+ten. Files without a path are those of `justfile_model`.
 """
 import functools
 import re
 import sys
+import textwrap
 from pathlib import Path
 
 TOP = Path(__file__).resolve().parent.parent
@@ -149,21 +150,22 @@ GROUPS = [
     ],
     [("justfile_files/src/run.rt", ["run"]), ("line_diff/src/unified.rt", ["unified_diff"])],
     [("justfile_c/src/lib.rt", ["justfile_format"])],
+    [("justfile_problems/src/listing.rt", ["problems"]), ("justfile_problems/src/error.rt", ["error"])],
 ]
 
 
 def checked(rows, lines, title):
-    """The rows of a table with their last column rewritten, and which of its files are too many or missing."""
+    """The rows of a list with their counts rewritten, and which of its files are too many or missing."""
     listed, made, wrong = set(), [], []
     for row in rows:
-        cells = row.split("|")
-        files = re.findall(r"`([^`]+\.antt)`", cells[2])
+        files = re.findall(r"`([^`]+\.antt)`", row)
         listed.update(files)
         for file in files:
             if file not in lines:
                 wrong.append(f"{title}: {file} is not cited")
-        cells[3] = f" {-(-sum(lines.get(it, 0) for it in files) // 10) * 10} "
-        made.append("|".join(cells))
+        count = -(-sum(lines.get(it, 0) for it in files) // 10) * 10
+        row = re.sub(r" \(\d+\): ", f" ({count}): ", " ".join(row.split()), count=1)
+        made.append(textwrap.fill(row, 120, subsequent_indent="  ", break_on_hyphens=False, break_long_words=False))
     for file in sorted(set(lines) - listed):
         wrong.append(f"{title}: {file} is missing ({lines[file]} lines)")
     return made, wrong
@@ -174,18 +176,18 @@ def main():
     start = text.index("## What you have to trust")
     end = text.index("\n## ", start)
     section, seen, wrong = text[start:end], set(), []
-    tables = re.findall(r"(?:^\|[^\n]*\|\n)+", section, re.M)
-    for group, table in zip(GROUPS, tables, strict=True):
+    lists = re.findall(r"(?:^- .*\n(?:  .*\n)*)+", section, re.M)
+    for group, old in zip(GROUPS, lists, strict=True):
         units = closure(it for source, calls in group for it in cited(source, calls)) - seen
         seen |= units
-        rows = table.rstrip("\n").split("\n")
-        made, found = checked(rows[2:], lines_by_file(units), rows[0].split("|")[1].strip())
+        rows = re.split(r"^(?=- )", old, flags=re.M)[1:]
+        made, found = checked(rows, lines_by_file(units), rows[0].split(" (")[0])
         wrong += found
-        section = section.replace(table, "\n".join(rows[:2] + made) + "\n")
+        section = section.replace(old, "\n".join(made) + "\n")
     if "--write" in sys.argv:
         CLAIMS.write_text(text[:start] + section + text[end:])
     elif section != text[start:end]:
-        wrong.append("the last column is not what the definitions have: --write writes it")
+        wrong.append("a count is not what the definitions have: --write writes it")
     print("\n".join(f"docs/CLAIMS.md: {it}" for it in wrong), end="\n" if wrong else "")
     return 1 if wrong else 0
 
