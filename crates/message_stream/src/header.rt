@@ -26,13 +26,13 @@ pub(crate) enum Header {
 ///
 /// Reading failed, or memory ran out.
 #[tactic(auto, using(crate::proofs::Headers::is_none, crate::proofs::Headers::passed_most, crate::proofs::Headers::passed_none, crate::proofs::Headers::passed_to_end))]
-pub(crate) fn read_header<R: BufRead>(alloc: Global, reader: &mut R) -> io::Result<Header>
-    ensures { IfOk result (ReadsHeader (R.remaining reader.old) (R.remaining reader.new)) }
+pub(crate) fn read_header<R: BufRead>(alloc: Global, input: &mut R) -> io::Result<Header>
+    ensures { IfOk result (ReadsHeader (R.remaining input.old) (R.remaining input.new)) }
 {
     let mut length = None;
     let mut count = 0;
     'lines: while count < MOST_LINES {
-        let read = read_line(alloc, reader)?;
+        let read = read_line(alloc, input)?;
         let line = read.as_slice();
         if line.is_empty() {
             return Ok(Header::End);
@@ -47,12 +47,12 @@ pub(crate) fn read_header<R: BufRead>(alloc: Global, reader: &mut R) -> io::Resu
 }
 
 /// Reads the bytes up to the first line feed, with it, or up to the end of the input.
-fn read_line<R: BufRead>(alloc: Global, reader: &mut R) -> io::Result<Vec<u8>>
+fn read_line<R: BufRead>(alloc: Global, input: &mut R) -> io::Result<Vec<u8>>
     ensures { IfOk result
-        (λ line. ReadsLine (R.remaining reader.old) (R.remaining reader.new) line.items) }
+        (λ line. ReadsLine (R.remaining input.old) (R.remaining input.new) line.items) }
 {
     let mut line = Vec::new(alloc);
-    reader.read_until(b'\n', &mut line)?;
+    input.read_until(b'\n', &mut line)?;
     Ok(line)
 }
 

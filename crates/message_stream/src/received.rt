@@ -26,18 +26,18 @@ pub enum Received {
 ///
 /// Reading failed, the input ended in a message, or memory ran out.
 #[tactic(auto, using(crate::proofs::Headers::with_body))]
-pub fn read_message<R: BufRead>(alloc: Global, limit: usize, reader: &mut R) -> io::Result<Received>
-    ensures { IfOk result (ReadsMessage (R.remaining reader.old) (R.remaining reader.new) limit) }
+pub fn read_message<R: BufRead>(alloc: Global, limit: usize, input: &mut R) -> io::Result<Received>
+    ensures { IfOk result (ReadsMessage (R.remaining input.old) (R.remaining input.new) limit) }
 {
-    match read_header(alloc, reader)? {
+    match read_header(alloc, input)? {
         Header::End => Ok(Received::End),
         Header::Wrong => Ok(Received::WrongHeader),
         Header::Length(count) if count > limit => {
-            skip_body(count, reader)?;
+            skip_body(count, input)?;
             Ok(Received::TooLong)
         }
         Header::Length(count) => {
-            let body = read_body(alloc, count, reader)?;
+            let body = read_body(alloc, count, input)?;
             Ok(Received::Message(body))
         }
     }
