@@ -1,10 +1,11 @@
 //! Callers of the library, a query, and the lines of faults.
 
 use formatted::formatted;
+use justfile_canonical::parts::format_parts;
 use justfile_syntax::ast::Ast;
 use justfile_syntax::format::FormatFault;
 use justfile_syntax::parser::{Query, query_root};
-use row_notation::{Answer, field_at, indentation_at, push_fault};
+use row_notation::{Answer, field_at, indentation_at, number_at, push_fault};
 use std::alloc::{AllocError, AllocFailed, Global};
 use variables::variables_of;
 
@@ -14,6 +15,15 @@ pub(crate) fn formats_at(answer: &mut Answer, fields: &[String]) {
     match formatted(answer.alloc(), source, indentation_at(fields, 0)) {
         Ok(text) => answer.push(text.as_str()),
         Err(fault) => push_fault(answer, source, &fault),
+    }
+}
+
+/// Writes the canonical text of a text that is read in parts of at least a number of bytes, if it can
+/// be.
+pub(crate) fn in_parts(answer: &mut Answer, fields: &[String]) {
+    let least = number_at(fields, 0) as usize;
+    if let Some(text) = format_parts(answer.alloc(), field_at(fields, 1), least) {
+        answer.push(text.as_str());
     }
 }
 

@@ -2,6 +2,7 @@
 
 use crate::word::Word;
 use formatted::formatted_as_set;
+use justfile_canonical::parts::format_parts;
 use justfile_format::system::Justfmt;
 use justfile_syntax::format::format_text;
 use row_notation::{Answer, Stream, field_at, number_at, push_fault};
@@ -176,6 +177,7 @@ pub(crate) fn formats(answer: &mut Answer, source: &str) {
     push_rest(answer, status, &streams);
     push_library(answer, source, &streams);
     push_caller(answer, source, printed);
+    push_parts(answer, source, printed);
     push_again(answer, "", printed, printed);
     push_again(answer, "--check", printed, "");
 }
@@ -185,6 +187,14 @@ fn push_caller(answer: &mut Answer, source: &str, expected: &str) {
     match formatted_as_set(answer.alloc(), source) {
         Ok(text) => answer.push_if("caller", text.as_str() != expected),
         Err(fault) => push_fault(answer, source, &fault),
+    }
+}
+
+/// Writes `parts` if `format_parts` returns another text than this, where each part is as short as
+/// it can be.
+fn push_parts(answer: &mut Answer, source: &str, expected: &str) {
+    if let Some(text) = format_parts(answer.alloc(), source, 1) {
+        answer.push_if("parts", text.as_str() != expected);
     }
 }
 

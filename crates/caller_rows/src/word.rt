@@ -1,6 +1,6 @@
 //! The words that rows begin with.
 
-use crate::callers::{fault_lines, formats_at, item_count, variables};
+use crate::callers::{fault_lines, formats_at, in_parts, item_count, variables};
 use crate::interpreters::{push_default, push_interpreter};
 use crate::made::{makes, makes_keyed};
 use crate::program::{breaks_each, formats, runs};
@@ -20,10 +20,13 @@ pub(crate) enum Word {
     FaultLines,
     /// Standard input: the standard output of `justfmt`, which ends with 0; over its output it
     /// writes the same, and with `--check` ends with 0. `format_text` and `formatted_as_set` return
-    /// that text too (`library`, `caller`).
+    /// that text too, and `format_parts` no other one (`library`, `caller`,
+    /// `parts`).
     Formats,
     /// Indentation, T: what `formatted` of the crate `formatted` returns at this indentation.
     FormatsAt,
+    /// Number, text: what `format_parts` returns of parts of at least this many bytes, if anything.
+    InParts,
     /// Words: one of these words (`uncopied`), and how it compares.
     Interpreter,
     /// T: what a query answers.
@@ -54,6 +57,7 @@ static WORDS: &[(&str, Word, usize)] = &[
     ("fault_lines", Word::FaultLines, 1),
     ("formats", Word::Formats, 1),
     ("formats_at", Word::FormatsAt, 2),
+    ("in_parts", Word::InParts, 2),
     ("interpreter", Word::Interpreter, 1),
     ("item_count", Word::ItemCount, 1),
     ("makes", Word::Makes, 2),
@@ -85,7 +89,7 @@ impl RowWord for Word {
             Word::BreaksEach => matches!(first, "reading" | "reporting" | "writing"),
             Word::FaultLines => matches!(first, "list" | "memory" | "numbers"),
             Word::FormatsAt => is_indentation(fields, 0),
-            Word::Makes => is_number(fields, 0),
+            Word::InParts | Word::Makes => is_number(fields, 0),
             _ => true,
         }
     }
@@ -102,6 +106,7 @@ impl RowWord for Word {
             Word::FaultLines => fault_lines(answer, text),
             Word::Formats => formats(answer, text),
             Word::FormatsAt => formats_at(answer, fields),
+            Word::InParts => in_parts(answer, fields),
             Word::Interpreter => push_interpreter(answer, text),
             Word::ItemCount => item_count(answer, text),
             Word::Makes => makes(answer, fields),

@@ -134,7 +134,7 @@ module _ (indentation : List ℕ) where
   front-snoc separator [] i = append-nil (step_text indentation separator i)
   front-snoc separator (j ∷ s) i = ap (λ l. step_text indentation separator j ++ l) (front-snoc (next_separator separator j) s i) ∙ sym (append_assoc (step_text indentation separator j) _ _)
 
-  front-append : (separator : Separator) (s r : Shape) → front_text indentation separator (s ++ r) ≡ front_text indentation separator s ++ front_text indentation (last_separator separator s) r
+  pub front-append : (separator : Separator) (s r : Shape) → front_text indentation separator (s ++ r) ≡ front_text indentation separator s ++ front_text indentation (last_separator separator s) r
   front-append separator [] r = refl
   front-append separator (j ∷ s) r = ap (λ l. step_text indentation separator j ++ l) (front-append (next_separator separator j) s r) ∙ sym (append_assoc (step_text indentation separator j) _ _)
 
@@ -143,28 +143,28 @@ last_separator-snoc separator [] i = refl
 last_separator-snoc separator (j ∷ s) i = last_separator-snoc (next_separator separator j) s i
 
 -- the items before an index, by their shapes, and one more
-module _ (indentation : List ℕ) {X : Type 0} (v : X → ItemShape) (xs : List X) (i : ℕ) (x : X) (h : i < length xs) (e : x ≡ get_or xs i x) where
+module _ (indentation : List ℕ) (begin : Separator) {X : Type 0} (v : X → ItemShape) (xs : List X) (i : ℕ) (x : X) (h : i < length xs) (e : x ≡ get_or xs i x) where
   more_items : map v (take (i + 1) xs) ≡ map v (take i xs) ++ v x ∷ []
   more_items = ap (map v) (take_more xs i x h ∙ ap (λ y. take i xs ++ y ∷ []) (sym e)) ∙ map-append v (take i xs) (x ∷ [])
 
   -- the text printed for the first `n` items
   abbrev front : ℕ → List ℕ
-  front n = front_text indentation Start (map v (take n xs))
+  front n = front_text indentation begin (map v (take n xs))
 
   abbrev separator_at : ℕ → Separator
-  separator_at n = last_separator Start (map v (take n xs))
+  separator_at n = last_separator begin (map v (take n xs))
 
   next_separator_is : separator_at (i + 1) ≡ next_separator (separator_at i) (v x)
-  next_separator_is = ap (last_separator Start) more_items ∙ last_separator-snoc Start (map v (take i xs)) (v x)
+  next_separator_is = ap (last_separator begin) more_items ∙ last_separator-snoc begin (map v (take i xs)) (v x)
 
   next_text_is : front i ++ step_text indentation (separator_at i) (v x) ≡ front (i + 1)
-  next_text_is = sym (ap (front_text indentation Start) more_items ∙ front-snoc indentation Start (map v (take i xs)) (v x))
+  next_text_is = sym (ap (front_text indentation begin) more_items ∙ front-snoc indentation begin (map v (take i xs)) (v x))
 
   -- that text, followed by the text of the rest, is the whole text
-  whole_text_is : front (i + 1) ++ front_text indentation (separator_at (i + 1)) (map v (drop (i + 1) xs)) ≡ front_text indentation Start (map v xs)
+  whole_text_is : front (i + 1) ++ front_text indentation (separator_at (i + 1)) (map v (drop (i + 1) xs)) ≡ front_text indentation begin (map v xs)
   whole_text_is =
-      sym (front-append indentation Start (map v (take (i + 1) xs)) (map v (drop (i + 1) xs)))
-      ∙ ap (front_text indentation Start) (sym (map-append v (take (i + 1) xs) (drop (i + 1) xs)) ∙ ap (map v) (take-append-drop (i + 1) xs))
+      sym (front-append indentation begin (map v (take (i + 1) xs)) (map v (drop (i + 1) xs)))
+      ∙ ap (front_text indentation begin) (sym (map-append v (take (i + 1) xs) (drop (i + 1) xs)) ∙ ap (map v) (take-append-drop (i + 1) xs))
 
   -- what a sink has written of the next item, or where it failed
   module _ {S : Type 0} (took failed : S → List ℕ → S → Type 0)
@@ -178,7 +178,7 @@ module _ (indentation : List ℕ) {X : Type 0} (v : X → ItemShape) (xs : List 
     pub took_next : (a b c : S) → took a (front i) b → took b (step_text indentation separator (v x)) c → took a (front (i + 1)) c
     took_next a b c p q = subst (λ (t : List ℕ). took a t c) step_is (more a b c _ _ p q)
 
-    pub failed_next : (a b c : S) → took a (front i) b → failed b (step_text indentation separator (v x)) c → failed a (front_text indentation Start (map v xs)) c
+    pub failed_next : (a b c : S) → took a (front i) b → failed b (step_text indentation separator (v x)) c → failed a (front_text indentation begin (map v xs)) c
     failed_next a b c p q =
         subst (λ (t : List ℕ). failed a t c)
         (ap (λ t. t ++ front_text indentation (separator_at (i + 1)) (map v (drop (i + 1) xs))) step_is ∙ whole_text_is)

@@ -1,5 +1,5 @@
 //! Files: their type, copies, indentation and printing.
-ghost use Rattle.std.specs.Prelude.{◌≡◌, All, OnOk, OnErr, IfOk, IfSome, map, string_bytes};
+ghost use Rattle.std.specs.Prelude.{◌≡◌, ◌++◌, All, OnOk, OnErr, IfOk, IfSome, drop, map, string_bytes};
 ghost use Rattle.std.specs.Io.KnownBytes.{Appends};
 ghost use Rattle.std.specs.List.{AllZip, list_all};
 ghost use Rattle.std.specs.Option.{option_map};
@@ -14,7 +14,7 @@ ghost use Rattle.justfile_item.specs.Copies.{IsSameItem};
 ghost use Rattle.justfile_item.specs.Indented.{HasDerivedFieldsOfSetting, items_indentation};
 ghost use Rattle.justfile_item.specs.Item.{item_shape};
 ghost use Rattle.justfile_ast.specs.Ast.{ast_shape, tree_of};
-ghost use Rattle.justfile_ast.specs.Separator.{front_text, end_text};
+ghost use Rattle.justfile_ast.specs.Separator.{end_text, front_text, last_separator};
 ghost use Rattle.justfile_ast.specs.PrintsBack.{PrintsBack};
 ghost use Rattle.justfile_ast.specs.Written.{AppendsPart};
 ghost use Rattle.justfile_ast.specs.declared.separator.Separator.TheVariants.{Start};
@@ -120,6 +120,29 @@ impl<'src> Ast<'src> {
         Ok(printed)
     }
 
+    /// Appends the printed text of the items from an index on to that of the items before them,
+    /// which end with this separator, and returns the separator after them: so a file is printed in
+    /// parts. The line end at the end of a file isn't appended.
+    ///
+    /// # Errors
+    ///
+    /// Memory runs out.
+    pub fn print_part(
+        &self,
+        first: usize,
+        indentation: Indentation,
+        separator: Separator,
+        printed: &mut String,
+    ) -> Result<Separator, AllocError>
+        ensures separator { IfOk result (λ following. following
+            ≡ last_separator separator (drop first (ast_shape self.now))) }
+        ensures appends { OnOk result (string_bytes printed.new ≡ string_bytes printed.old
+            ++ front_text (indentation_text indentation) separator
+            (drop first (ast_shape self.now))) }
+    {
+        write_items(&self.items, first, indentation, separator, printed)
+    }
+
     /// Writes the printed text of the file to the writer, piece by piece. If it fails, the writer
     /// has a beginning of the text, and nothing else. The writer isn't flushed.
     ///
@@ -183,25 +206,31 @@ fn write_ast<S: Sink>(ast: &Ast<'_>, indentation: Indentation, sink: &mut S) -> 
     ensures { Puts S.took S.failed sink.old result
         (text (normal (ast_shape ast.now)) (indentation_text indentation)) sink.new }
 {
-    write_items(&ast.items, indentation, sink)?;
+    write_items(&ast.items, 0, indentation, Separator::Start, sink)?;
     write_end(&ast.items, sink)?;
     Ok(())
 }
 
-/// Writes the items of a file, without the line ends at its end.
+/// Writes the items of a file from an index on after a separator, without the line ends at their
+/// end, and returns the separator after them.
 fn write_items<S: Sink>(
     items: &[Item<'_>],
+    first: usize,
     indentation: Indentation,
+    separator: Separator,
     sink: &mut S,
-) -> Result<(), S::Fault>
-    ensures { Puts S.took S.failed sink.old result
-        (front_text (indentation_text indentation) Start (map item_shape items.now)) sink.new }
+) -> Result<Separator, S::Fault>
+    ensures separator { IfOk result (λ following. following
+        ≡ last_separator separator (map item_shape (drop first items.now))) }
+    ensures puts { Puts S.took S.failed sink.old result
+        (front_text (indentation_text indentation) separator
+        (map item_shape (drop first items.now))) sink.new }
 {
-    let mut separator = Separator::Start;
-    for item in items {
-        separator = write_separated(item, indentation, separator, sink)?;
+    let mut following = separator;
+    for index in first..items.len() {
+        following = write_separated(&items[index], indentation, following, sink)?;
     }
-    Ok(())
+    Ok(following)
 }
 
 /// Writes the line end at the end of a file, unless the file has no items.

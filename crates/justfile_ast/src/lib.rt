@@ -4,9 +4,10 @@
 pub mod ast;
 pub mod laws;
 mod push;
-mod separator;
+pub mod separator;
 pub mod write_fault;
 mod writer;
 
 pub use crate::ast::Ast;
+pub use crate::separator::Separator;
 pub use crate::write_fault::WriteFault;

@@ -58,7 +58,7 @@ module _ (IsToken : Token → Type 0) where
     holds_first None found h k = k
     holds_first (Some p) found h k = h
 
-    holds_items : (all : List Item) → All (IsFilledItem unchanged IsToken depth offsets) all → IfSome (items_indentation all) MatchesLiteral
+    pub holds_items : (all : List Item) → All (IsFilledItem unchanged IsToken depth offsets) all → IfSome (items_indentation all) MatchesLiteral
     holds_items [] given = tt
     holds_items (i ∷ all) given =
         holds_first (item_indentation i) (items_indentation all) (holds_item i (All-head (IsFilledItem unchanged IsToken depth offsets) i all given))

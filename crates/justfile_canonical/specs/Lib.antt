@@ -1,5 +1,6 @@
 pub mod Fault
 pub mod Formatting
 pub mod Messages
+pub mod Parts
 pub mod Reading
 pub mod Root

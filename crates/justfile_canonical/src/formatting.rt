@@ -10,6 +10,7 @@ ghost use Rattle.justfile_model.specs.Meanings.Enabled.{indentation_of};
 ghost use Rattle.justfile_model.specs.Printed.Printing.{printable};
 
 use crate::fault::{FormatFault, Rejection};
+use crate::parts::format_long;
 use crate::root::parse_root;
 use justfile_ast::Ast;
 use justfile_indentation::own_indentation;
@@ -28,6 +29,17 @@ pub fn format_text(alloc: Global, path: &str, source: &str) -> Result<String, Fo
     ensures ok { IfOk result (λ text. IsFormatted source.now (string_bytes text)) }
     ensures err { IfErr result (IsFormatFaultOf path.now source.now) }
 {
+    match format_long(alloc, source) {
+        Some(text) => Ok(text),
+        None => format_whole(alloc, path, source),
+    }
+}
+
+/// Does the same as `format_text`, with the tree of the whole text.
+fn format_whole(alloc: Global, path: &str, source: &str) -> Result<String, FormatFault>
+    ensures ok { IfOk result (λ text. IsFormatted source.now (string_bytes text)) }
+    ensures err { IfErr result (IsFormatFaultOf path.now source.now) }
+{
     let mut ast = parse(alloc, path, source)?;
     print(&mut ast, alloc)
 }
@@ -39,6 +51,17 @@ pub fn format_text(alloc: Global, path: &str, source: &str) -> Result<String, Fo
 ///
 /// As for `format_text`.
 pub fn format_and_forget(alloc: Global, path: &str, source: &str) -> Result<String, FormatFault>
+    ensures ok { IfOk result (λ text. IsFormatted source.now (string_bytes text)) }
+    ensures err { IfErr result (IsFormatFaultOf path.now source.now) }
+{
+    match format_long(alloc, source) {
+        Some(text) => Ok(text),
+        None => format_whole_and_forget(alloc, path, source),
+    }
+}
+
+/// Does the same as `format_and_forget`, with the tree of the whole text.
+fn format_whole_and_forget(alloc: Global, path: &str, source: &str) -> Result<String, FormatFault>
     ensures ok { IfOk result (λ text. IsFormatted source.now (string_bytes text)) }
     ensures err { IfErr result (IsFormatFaultOf path.now source.now) }
 {

@@ -5,5 +5,6 @@
 pub mod fault;
 pub mod formatting;
 pub mod laws;
+pub mod parts;
 pub mod reading;
 pub mod root;

@@ -29,7 +29,7 @@ start_inside : (before : Tokens) (start : SignificantToken) (following : Tokens)
 start_inside [] start following h kind = h.0 kind
 start_inside (t ∷ before) start following h kind = start_inside before start following h.1 kind
 
-inside_ended : (ts : Tokens) → AreInFormat ts → AreEnded ts
+pub inside_ended : (ts : Tokens) → AreInFormat ts → AreEnded ts
 unfolding AreEnded IsEndedPastExpression IsEnded
 inside_ended ts h before start following is kind depth e fs rest x ps gs end parts =
     parts_ended parts (expression_inside itself itself AnyDepth x (start_inside before start following (subst AreInFormat is h) kind))

@@ -91,7 +91,7 @@ longer : (b : Bool) (t : SignificantToken) (ts us : List SignificantToken) → 0
 longer true t ts us h = h
 longer false t ts us h = omega arith
 
-some_significant : (glued : Bool) (ts : List Tok) (last : Tok) → last.kind ≡ kinds.Eof → 0 < length (significant_from glued (ts ++ last ∷ []))
+pub some_significant : (glued : Bool) (ts : List Tok) (last : Tok) → last.kind ≡ kinds.Eof → 0 < length (significant_from glued (ts ++ last ∷ []))
 some_significant glued [] last h =
     let P : Bool → Type 0 = λ b. 0 < length (cond {A = List SignificantToken} b [] (record { tok = last; glued = glued } ∷ [])) in
     let e : is_whitespace last.kind ≡ false = ap is_whitespace h in
@@ -146,7 +146,7 @@ sound_lex tokens table l is =
 
 -- ---- what was given
 
-in_tokens : (tokens : List Token) (table : List TableEntry) → All (λ entry. Contains tokens entry.0) table → (t : Token) → IsInTable table t → Contains tokens t
+pub in_tokens : (tokens : List Token) (table : List TableEntry) → All (λ entry. Contains tokens entry.0) table → (t : Token) → IsInTable table t → Contains tokens t
 in_tokens tokens table all t h = All-contains (λ (entry : TableEntry). Contains tokens entry.0) table (t, h.glued) all h.among
 
 module _ (expander : Expansions) (P Q : Token → Type 0) (weaker : (t : Token) → P t → Q t) where
@@ -426,6 +426,15 @@ given_tokens expander tokens table file_depth import_offsets items all =
     All-weaker (IsFilledItem expander (IsInTable table) file_depth import_offsets) (IsFilledItem expander (Contains tokens) file_depth import_offsets)
     (given_weaker expander (IsInTable table) (Contains tokens) (in_tokens tokens table all) file_depth import_offsets) items
 
+pub read_derives : (conditions : Conditions) (tokens : List SignificantToken) (written : WrittenTree) (tree : Tree) (features : List (Noted Tok))
+    → model.tree_of_tokens conditions tokens ≡ Ok (written, features) → ordered (views_tokens conditions.expander) written ≡ Some tree
+    → FileDerives conditions tokens tree features
+read_derives conditions tokens written tree features read meaning =
+    let x = sound conditions tokens written features read in
+    let e : Some x.0 ≡ Some tree = sym x.1 ∙ meaning in
+    let same : x.0 ≡ tree = cc in
+    subst (λ (t : Tree). FileDerives conditions tokens t features) same x.2
+
 module _ (conditions : Conditions) (tokens : List Token) (table : List TableEntry) (old new : Numerator) (is : map significant_of table ≡ significant_tokens (map tok_of tokens)) where
   -- the tokens of a lex are those of its table
   abbrev Derives : Tree → List (Noted Tok) → Type 0
@@ -445,10 +454,7 @@ module _ (conditions : Conditions) (tokens : List Token) (table : List TableEntr
 
   pub derives_of : (written : WrittenTree) (tree : Tree) (features : List (Noted Tok)) → there ≡ Ok (written, features) → ordered (views_tokens conditions.expander) written ≡ Some tree → Derives tree features
   derives_of written tree features h meaning =
-      let x = sound conditions (significant_tokens (map tok_of tokens)) written features (sym (ap (model.tree_of_tokens conditions) is) ∙ h) in
-      let e : Some x.0 ≡ Some tree = sym x.1 ∙ meaning in
-      let same : x.0 ≡ tree = cc in
-      subst (λ (t : Tree). Derives t features) same x.2
+      read_derives conditions (significant_tokens (map tok_of tokens)) written tree features (sym (ap (model.tree_of_tokens conditions) is) ∙ h) meaning
 
   pub unparsed_of : All (λ entry. Contains tokens entry.0) table → (fault : Fault)
       → IsUnread conditions (map significant_of table) (IsInTable table) old new fault

@@ -135,8 +135,12 @@ pub fn parse<'src, X: Expander>(
     )
 }
 
-/// Parses a file from the table of its tokens.
-fn parse_significant<'src, X: Expander>(
+/// Parses a file from the table of its tokens, under a limit as for `parse`.
+///
+/// # Errors
+///
+/// As for `parse`.
+pub fn parse_significant<'src, X: Expander>(
     alloc: Global,
     numerator: &mut Numerator,
     source: &Source<'_, '_>,

@@ -4,4 +4,4 @@
 mod file;
 mod unstable;
 
-pub use crate::file::{parse, parse_source};
+pub use crate::file::{parse, parse_significant, parse_source};

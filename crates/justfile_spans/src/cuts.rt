@@ -19,8 +19,20 @@ pub fn is_cut(kind: TokenKind, depth: usize, line: Option<TokenKind>, later: &[T
     if !ends_line(kind) || depth > 0 {
         return false;
     }
-    let next = next_kind(later);
-    !goes_on(next) && !joins(line, next)
+    is_cut_before(kind, depth, line, next_kind(later))
+}
+
+/// Whether a text is cut after a token of this kind, as for `is_cut`, where the next one other than
+/// whitespace is of the kind `next`.
+pub fn is_cut_before(
+    kind: TokenKind,
+    depth: usize,
+    line: Option<TokenKind>,
+    next: Option<TokenKind>,
+) -> bool
+    ensures { result ≡ is_cut kind depth line next }
+{
+    ends_line(kind) && depth == 0 && !goes_on(next) && !joins(line, next)
 }
 
 /// Returns the number of levels that are open after a token of this kind.

@@ -1,3 +1,4 @@
 pub mod Buffers
 pub mod Failures
 pub mod Files
+pub mod Texts

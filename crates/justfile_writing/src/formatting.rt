@@ -16,24 +16,61 @@ ghost use Rattle.justfile_writing.specs.Formatting.{Formats, IsRejection, Writes
 use crate::buffer::Buffer;
 use crate::failure::Failure;
 use justfile_canonical::formatting::{parse, printing_indentation};
+use justfile_canonical::parts::format_long;
 use justfile_syntax::ast::{Ast, WriteFault};
 use justfile_syntax::format::format_and_forget;
 use justfile_syntax::indentation::Indentation;
 use std::alloc::Global;
 use std::io::Write;
 use std::mem;
+use system_run::write_up_to;
 
 /// How many bytes of the canonical text are written at once.
 const CAPACITY: usize = 8 * 1024;
 
-/// Writes the canonical text of a justfile, without flushing it. Takes no memory for the text.
-/// Doesn't free the tree, because the program ends soon.
+/// Writes the canonical text of a justfile, without flushing it. Of a text that isn't long it takes
+/// no memory for the canonical text, and doesn't free the tree, because the program ends soon.
 ///
 /// # Errors
 ///
 /// As for `format_input`, or a write fails. Unless a write fails, nothing is written.
-#[tactic(auto, using(crate::proofs::Failures::rejected, crate::proofs::Failures::unprintable, crate::proofs::Failures::numbers, crate::proofs::Failures::of_text_or_writing, crate::proofs::Files::formats, crate::proofs::Files::begins, crate::proofs::Files::never_rejected, crate::proofs::Files::unprinted, crate::proofs::Files::not_numbers, crate::proofs::Files::of_file))]
+#[tactic(auto, using(crate::proofs::Texts::formats_text, crate::proofs::Texts::begins_text, crate::proofs::Texts::never_rejected, crate::proofs::Texts::not_unprintable, crate::proofs::Texts::not_numbers, crate::proofs::Texts::writing, crate::proofs::Texts::never_unwritten))]
 pub fn format_to<W: Write>(alloc: Global, source: &str, writer: &mut W) -> Result<(), Failure>
+    ensures ok { OnOk result (Formats source.now (W.contents writer.old) (W.contents writer.new)) }
+    ensures rejected { IfErr result (IfRejected (IsRejection source.now)) }
+    ensures unprintable { result ≡ Err failures.NotPrintable → IsUnprintable source.now }
+    ensures part { result ≡ Err failures.Writing
+        → FormatsBeginning source.now (W.contents writer.old) (W.contents writer.new) }
+    ensures numbers { result ≡ Err failures.Numbers → LacksNumbers source.now }
+    ensures unwritten { IfErr result (λ e. e ≢ failures.Writing → writer.new ≡ writer.old) }
+    ensures err { IfErr result IsOfTextOrWriting }
+{
+    match format_long(alloc, source) {
+        Some(text) => write_text(text.as_str(), writer),
+        None => format_whole(alloc, source, writer),
+    }
+}
+
+/// Writes a text.
+///
+/// # Errors
+///
+/// A write fails. Then a beginning of the text is written.
+#[tactic(auto, using(system_run::proofs::Beginnings::front, system_run::proofs::Beginnings::all_of))]
+fn write_text<W: Write>(text: &str, writer: &mut W) -> Result<(), Failure>
+    ensures ok { OnOk result (Appends (W.contents writer.old) (W.contents writer.new) text.now) }
+    ensures begun { AppendsBeginning (W.contents writer.old) (W.contents writer.new) text.now }
+    ensures err { IfErr result (λ e. e ≡ failures.Writing) }
+{
+    if write_up_to(text.as_bytes(), writer) < text.len() {
+        return Err(Failure::Writing);
+    }
+    Ok(())
+}
+
+/// Does the same as `format_to`, with the tree of the whole text.
+#[tactic(auto, using(crate::proofs::Failures::rejected, crate::proofs::Failures::unprintable, crate::proofs::Failures::numbers, crate::proofs::Failures::of_text_or_writing, crate::proofs::Files::formats, crate::proofs::Files::begins, crate::proofs::Files::never_rejected, crate::proofs::Files::unprinted, crate::proofs::Files::not_numbers, crate::proofs::Files::of_file))]
+fn format_whole<W: Write>(alloc: Global, source: &str, writer: &mut W) -> Result<(), Failure>
     ensures ok { OnOk result (Formats source.now (W.contents writer.old) (W.contents writer.new)) }
     ensures rejected { IfErr result (IfRejected (IsRejection source.now)) }
     ensures unprintable { result ≡ Err failures.NotPrintable → IsUnprintable source.now }

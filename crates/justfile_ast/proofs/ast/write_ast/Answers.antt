@@ -26,18 +26,18 @@ returns-in_err-write_items g c =
     let s = g.met.S.Sink in
     failed_at g.S.Sink.took g.S.Sink.failed _ c.from_residual.ensures.0 (subst (λ (t : List ℕ). g.S.Sink.failed c.args.sink.now t c.write_items.new.sink)
     (written c.deref.result.now c.args.ast.now.items.items c.args.ast.now.items.items (indentation_text c.args.indentation) c.deref.ensures.value refl)
-    (s.failed_before _ _ _ _ c.in_err-write_items.ensures))
+    (s.failed_before _ _ _ _ c.in_err-write_items.ensures.puts))
 
 pub returns-in_err-write_end : goal.returns-in_err-write_end
 returns-in_err-write_end g c =
     let s = g.met.S.Sink in
     failed_at g.S.Sink.took g.S.Sink.failed _ c.from_residual-in_err-write_end.ensures.0 (subst (λ (t : List ℕ). g.S.Sink.failed c.args.sink.now t c.write_end.new.sink)
     (written c.deref.result.now c.args.ast.now.items.items c.deref-2.result.now (indentation_text c.args.indentation) c.deref.ensures.value c.deref-2.ensures.value)
-    (s.failed_later _ _ _ _ _ c.in_ok-write_items.ensures c.in_err-write_end.ensures))
+    (s.failed_later _ _ _ _ _ c.in_ok-write_items.ensures.puts c.in_err-write_end.ensures))
 
 pub returns : goal.returns
 returns g c =
     let s = g.met.S.Sink in
     subst (λ (t : List ℕ). g.S.Sink.took c.args.sink.now t c.write_end.new.sink)
     (written c.deref.result.now c.args.ast.now.items.items c.deref-2.result.now (indentation_text c.args.indentation) c.deref.ensures.value c.deref-2.ensures.value)
-    (s.took_more _ _ _ _ _ c.in_ok-write_items.ensures c.in_ok-write_end.ensures)
+    (s.took_more _ _ _ _ _ c.in_ok-write_items.ensures.puts c.in_ok-write_end.ensures)
