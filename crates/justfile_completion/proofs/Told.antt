@@ -1,0 +1,54 @@
+-- What was found, by the tokens.
+use Rattle.std.proofs.Common.{◌≡◌, ℕ, Bool, false, List, [], ◌∷◌, ◌++◌, Bor, None, Some, length, map, nat_lt, refl, subst, sym}
+use Rattle.std.specs.List.{slice_range}
+use Rattle.justfile_token.specs.declared.compile_error.CompileError.{CompileError}
+use Rattle.justfile_token.specs.declared.token.Token.{Token}
+use Rattle.justfile_model.specs.Lexing.LexResult.{IsLexicalError}
+use Rattle.justfile_model.specs.Lexing.Lexed.{Lexed}
+use Rattle.justfile_model.specs.Lexing.Tok.{tok_of}
+use Rattle.justfile_completion.specs.Completions.{AreAfter, AreCompletions, AreFound, HasFound, candidates_after, some_of, told_of}
+use Rattle.justfile_completion.specs.Cursor.{HasNoTokens, IsFront, closed, none, open_still, word_end, word_start}
+use Rattle.justfile_completion.specs.Offers.{Told, told}
+use Rattle.justfile_completion.specs.Order.{AreInOrder}
+use Rattle.justfile_completion.specs.Words.{tokens_before}
+use Rattle.justfile_completion.specs.declared.found.Completion.{Completion}
+use Rattle.justfile_completion.specs.declared.found.Completions.{Completions}
+use Rattle.justfile_completion.specs.declared.found.TheConstants.{ENDS, LIMIT}
+use Rattle.justfile_completion.specs.declared.offer.Offer.{Offer}
+
+pub are_found : (candidates : List Told) (typed : List ℕ) (offers ordered : List Offer) (found : List Completion) (is_incomplete : Bool) → map told offers ≡ candidates → AreInOrder offers ordered
+    → map told_of found ≡ map told (some_of typed ordered) → is_incomplete ≡ nat_lt LIMIT (length ordered) → AreFound candidates typed found is_incomplete
+are_found candidates typed offers ordered found is_incomplete made order shown more =
+    record { offers = offers; ordered = ordered; are_candidates = made; in_order = order; are = shown; incomplete_is = more }
+
+pub has_found : (names : List Offer) (text : List ℕ) (cursor : ℕ) (typed : List ℕ) (tokens before : List Token) (found : List Completion) (is_incomplete : Bool) → Lexed text (map tok_of tokens) → before ≡ tokens_before cursor tokens
+    → AreFound (candidates_after names cursor before) typed found is_incomplete → HasFound names text cursor typed found is_incomplete
+has_found names text cursor typed tokens before found is_incomplete lexed e are =
+    record { tokens = tokens; lexed = lexed; are = subst (λ (ts : List Token). AreFound (candidates_after names cursor ts) typed found is_incomplete) e are }
+
+pub no_tokens : (path text : List ℕ) (e : CompileError) → IsLexicalError path text e → HasNoTokens text
+no_tokens path text e error = record { fault = error.fault; span = tok_of e.token; is_fault = error.is_fault }
+
+abbrev pub texts : List (Bor (List ℕ)) → List (List ℕ)
+texts ends = map (λ (end : Bor (List ℕ)). end.now) ends
+
+pub after_closed : (names : List Offer) (front typed : List ℕ) (ends others : List (Bor (List ℕ))) (end : Bor (List ℕ)) (found : List Completion) (is_incomplete : Bool) → ends ≡ end ∷ others → HasFound names (front ++ end.now) (length front) typed found is_incomplete
+    → AreAfter names front typed (texts ends) found is_incomplete
+after_closed names front typed ends others end found is_incomplete e has =
+    let made : AreAfter names front typed (texts (end ∷ others)) found is_incomplete = record { tokens = Some has.tokens; are_tokens = closed end.now has.tokens has.lexed; are = has.are } in
+    subst (λ (es : List (Bor (List ℕ))). AreAfter names front typed (texts es) found is_incomplete) (sym e) made
+
+pub after_open : (names : List Offer) (front typed : List ℕ) (ends others : List (Bor (List ℕ))) (end : Bor (List ℕ)) (found : List Completion) (is_incomplete : Bool) → ends ≡ end ∷ others → HasNoTokens (front ++ end.now)
+    → AreAfter names front typed (texts others) found is_incomplete → AreAfter names front typed (texts ends) found is_incomplete
+after_open names front typed ends others end found is_incomplete e refused later =
+    let made : AreAfter names front typed (texts (end ∷ others)) found is_incomplete = record { tokens = later.tokens; are_tokens = open_still end.now refused later.are_tokens; are = later.are } in
+    subst (λ (es : List (Bor (List ℕ))). AreAfter names front typed (texts es) found is_incomplete) (sym e) made
+
+pub after_all : (names : List Offer) (front typed : List ℕ) (ends : List (Bor (List ℕ))) (found : List Completion) → ends ≡ [] → found ≡ [] → AreAfter names front typed (texts ends) found false
+after_all names front typed ends found e none_found =
+    let made : AreAfter names front typed (texts []) found false = record { tokens = None; are_tokens = none; are = (none_found, refl) } in
+    subst (λ (es : List (Bor (List ℕ))). AreAfter names front typed (texts es) found false) (sym e) made
+
+pub are_completions : (names : List Offer) (text : List ℕ) (cursor : ℕ) (made : Completions) (front : List ℕ) → made.start ≡ word_start text cursor → made.end ≡ word_end text cursor → IsFront text made.start front
+    → AreAfter names front (slice_range text made.start cursor) (map (λ end. end.now) ENDS) made.found.items made.is_incomplete → AreCompletions names text cursor made
+are_completions names text cursor made front start end is_front are = record { start_is = start; end_is = end; front = front; is_front = is_front; are = are }

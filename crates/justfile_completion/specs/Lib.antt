@@ -1,0 +1,10 @@
+pub mod Candidates
+pub mod Completions
+pub mod Cursor
+pub mod Kinds
+pub mod Offers
+pub mod Order
+pub mod Parameters
+pub mod Places
+pub mod Tables
+pub mod Words
