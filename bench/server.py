@@ -359,4 +359,5 @@ def main():
         edit_at_random(program, encoding, edits // 2, chance)
 
 
-main()
+if __name__ == "__main__":
+    main()

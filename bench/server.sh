@@ -2,8 +2,8 @@
 # Tries the built program justfile_server: server.sh [PROGRAM [EDITS]]
 #
 # Edits a justfile at random and compares what the server says with what a new one says of the whole text, sends what
-# is no message (server.py), and then drives Neovim without a screen, where there is Neovim (server.lua). Prints a row
-# for each part. Ends with 1 if one ended otherwise than it should.
+# is no message (server.py), renames at random (renames.py), and then drives Neovim without a screen, where there is
+# Neovim (server.lua). Prints a row for each part. Ends with 1 if one ended otherwise than it should.
 set -u
 top=$(cd "$(dirname "$0")/.." && pwd)
 program=${1:-$top/crates/justfile_server/out/justfile_server}
@@ -19,6 +19,7 @@ for words in '--help:A server' '-h:A server' '--version:justfile_server, commit 
     esac
 done
 python3 "$top/bench/server.py" "$program" "${2:-1000}" || status=1
+python3 "$top/bench/renames.py" "$program" || status=1
 if command -v nvim > /dev/null; then
     printf 'e:="é𝄞\nbuild: clean\n  echo {{e}}\nclean:\n  rm -rf out\n' > "$work/justfile"
     (cd "$work" && SERVER=$program timeout 120 nvim --headless --clean justfile -c "luafile $top/bench/server.lua") \

@@ -1,5 +1,5 @@
 -- The name that is found at a position.
-use Rattle.std.proofs.Common.{◌≡◌, ◌∙◌, ℕ, List, [], ◌∷◌, map, filter, Option, Some, None, Result, Ok, Err, IfOk, refl, sym, ap, subst}
+use Rattle.std.proofs.Common.{◌≡◌, ◌∙◌, ℕ, List, [], ◌∷◌, map, Option, Some, None, Result, Ok, Err, IfOk, refl, sym, ap, subst}
 use Rattle.std.specs.List.{find}
 use Rattle.std.specs.Option.{option_copied, option_to_list}
 use Rattle.justfile_lines.specs.Positions.{IsOffset}
@@ -8,12 +8,13 @@ use Rattle.justfile_lines.specs.declared.position.Position.{Position}
 use Rattle.text_edits.specs.declared.edit.Range.{Range}
 use Rattle.editor_messages.specs.declared.answer.Answer.{Answer}
 use Rattle.editor_messages.specs.declared.answer.Answer.TheVariants.{Nothing, Place}
-use Rattle.editor_language.specs.Mentions.{is_at, is_like}
+use Rattle.editor_language.specs.Mentions.{is_at}
 use Rattle.editor_language.specs.declared.mention.Mention.{Mention}
+use Rattle.editor_language.specs.declared.parts.Analysis.{Analysis}
 use Rattle.editor_language.specs.declared.parts.Span.{Span}
-use Rattle.editor_answers.specs.Names.{AnswersHover, AnswersPlaces, Bounds, Describes, IsDefinedAt, IsNameAt, Locates, if_defined, name_if, ranges_of}
+use Rattle.editor_answers.specs.Names.{AnswersHover, AnswersPlaces, Bounds, Describes, IsDefinedAt, IsNameAt, Locates, if_defined, name_if}
 use Rattle.editor_answers.specs.Ranges.{range_of}
-use Rattle.editor_answers.specs.Renames.{AnswersEdits, PutInto, Renames}
+use Rattle.editor_answers.specs.Renames.{AnswersEdits, IsRenaming, Renames}
 use denote.Ref.{Bor}
 
 -- the name, if it is defined
@@ -56,10 +57,10 @@ module _ (encoding : Encoding) (text : List ℕ) (mentions : List Mention) (posi
     pub bounded : (range : Range) → range ≡ range_of encoding text name.span → Bounds encoding text mentions position (Place range)
     bounded range is = record { name = name; is_at = at; place = is }
 
-    pub renamed : {E : Type 0} (uri new : List ℕ) (r : Result Answer E) → IfOk r (AnswersEdits uri (PutInto (ranges_of encoding text (filter (is_like name) mentions)) new))
-        → IfOk r (Renames encoding uri text mentions position new)
-    renamed uri new (Ok answer) h = record { name = name; is_at = at; edits = h }
-    renamed uri new (Err e) h = tt
+    pub renamed : {E : Type 0} (knows : List ℕ → Analysis → Type 0) (mentioned : List ℕ → Analysis → List Mention → Type 0) (uri new : List ℕ) (r : Result Answer E)
+        → IfOk r (AnswersEdits uri (IsRenaming knows mentioned encoding text mentions name new)) → IfOk r (Renames knows mentioned encoding uri text mentions position new)
+    renamed knows mentioned uri new (Ok answer) h = record { name = name; is_at = at; edits = h }
+    renamed knows mentioned uri new (Err e) h = tt
 
     pub described : {E : Type 0} (r : Result Answer E) → IfOk r (AnswersHover encoding text (Some name)) → IfOk r (Describes encoding text mentions position)
     described (Ok answer) h = record { name = Some name; is_at = at; hover = h }

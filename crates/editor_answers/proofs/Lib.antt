@@ -1,3 +1,6 @@
 pub mod Failed
 pub mod Folders
+pub mod Folding
 pub mod Found
+pub mod Renamed
+pub mod Spoilt

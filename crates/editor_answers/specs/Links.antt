@@ -1,7 +1,7 @@
 -- The links of a document.
-use Rattle.std.specs.Prelude.{◌≡◌, ◌++◌, ℕ, List, [], ◌∷◌, Option, IfSome, if◌then◌else◌, ◌==◌, codes, map, slice_index, string_bytes}
+use Rattle.std.specs.Prelude.{◌≡◌, ◌++◌, ℕ, List, [], ◌∷◌, Option, None, Some, if◌then◌else◌, ◌==◌, codes, map, slice_index, string_bytes}
 use Rattle.std.specs.Path.{slash}
-use Rattle.std.specs.Str.{NoCharPasses}
+use Rattle.std.specs.Str.{IsUtf8, NoCharPasses}
 use Rattle.percent_encoding.specs.Percent.{percent_decode, percent_encode}
 use Rattle.justfile_lines.specs.declared.encoding.Encoding.{Encoding}
 use Rattle.text_edits.specs.declared.edit.Range.{Range}
@@ -22,11 +22,28 @@ pub data IsFolderOf (uri folder : List ℕ) : Type 0 where
   before : (name : List ℕ) → uri ≡ folder ++ slash ∷ name → HasNoSlash name → IsFolderOf uri folder
   nowhere : HasNoSlash uri → folder ≡ [] → IsFolderOf uri folder
 
+-- the path of a folder is absolute, without a slash at its end: that of the root is empty
+abbrev pub IsRooted : List ℕ → Type 0
+IsRooted [] = Unit {0}
+IsRooted (c ∷ path) = c ≡ slash
+
+-- the path that the address of a folder has, encoded, or none if it is no folder's with files
+abbrev pub IsEncodedPath : (folder : List ℕ) → Option (List ℕ) → Type 0
+IsEncodedPath folder None = (encoded : List ℕ) → folder ≡ codes "file://" ++ encoded → IsRooted encoded → ⊥
+IsEncodedPath folder (Some encoded) = (folder ≡ codes "file://" ++ encoded) × IsRooted encoded
+
 -- the path that the address of a folder stands for
 pub record IsFolderPath (folder path : List ℕ) : Type 0 where
   pub encoded : List ℕ
   pub is_file : folder ≡ codes "file://" ++ encoded
+  pub rooted : IsRooted encoded
   pub is_decoded : path ≡ percent_decode encoded
+  pub utf8 : IsUtf8 path
+
+-- the path that the address of a folder stands for, or none if it stands for none
+abbrev pub IsPathOfFolder : (folder : List ℕ) → Option (List ℕ) → Type 0
+IsPathOfFolder folder None = (path : List ℕ) → IsFolderPath folder path → ⊥
+IsPathOfFolder folder (Some path) = IsFolderPath folder path
 
 -- the address of the file at a path that is seen from the folder with an address
 abbrev pub address : (folder path : List ℕ) → List ℕ
@@ -47,12 +64,12 @@ abbrev pub AnswersLinks : List Pointed → Answer → Type 0
 AnswersLinks links (answers.Links found) = map pointed found.items ≡ links
 AnswersLinks links other = ⊥
 
--- The answer has exactly the links to files that a language has for a text. Their paths are seen from the document's folder, which the language knows if it has files.
+-- The answer has exactly the links to files that a language has for a text. Their paths are seen from the document's folder, which the language knows if it is one of files.
 pub record LinksIn (linked : Option (List ℕ) → List ℕ → Analysis → List FileLink → Type 0) (encoding : Encoding) (uri text : List ℕ) (analysis : Analysis) (answer : Answer) : Type 0 where
   pub folder : List ℕ
   pub is_folder : IsFolderOf uri folder
   pub path : Option (List ℕ)
-  pub is_path : IfSome path (IsFolderPath folder)
+  pub is_path : IsPathOfFolder folder path
   pub links : List FileLink
   pub are_links : linked path text analysis links
   pub is : AnswersLinks (map (to_point encoding text folder) links) answer

@@ -1,5 +1,5 @@
 -- What is answered about the name at a position.
-use Rattle.std.specs.Prelude.{◌≡◌, ◌&&◌, ℕ, List, [], filter, map, Option, None, Some, string_bytes}
+use Rattle.std.specs.Prelude.{◌≡◌, ◌&&◌, ◌||◌, ℕ, Bool, not, List, [], filter, map, Option, None, Some, string_bytes}
 use Rattle.std.specs.List.{find}
 use Rattle.std.specs.Option.{option_to_list}
 use Rattle.justfile_lines.specs.Positions.{IsOffset}
@@ -30,10 +30,14 @@ abbrev pub definitions_of : (mentions : List Mention) → Option Mention → Lis
 definitions_of mentions None = []
 definitions_of mentions (Some name) = option_to_list (definition mentions name)
 
--- all mentions of the name, if there is one, in their order
-abbrev pub mentions_of : (mentions : List Mention) → Option Mention → List Mention
-mentions_of mentions None = []
-mentions_of mentions (Some name) = filter (is_like name) mentions
+-- whether a mention is of the name, and one of those that are asked for: all, or those that don't define it
+abbrev pub is_wanted : (all : Bool) (name : Mention) → Mention → Bool
+is_wanted all name m = is_like name m && (all || not m.defines)
+
+-- these mentions of the name, if there is one, in their order
+abbrev pub mentions_of : (all : Bool) (mentions : List Mention) → Option Mention → List Mention
+mentions_of all mentions None = []
+mentions_of all mentions (Some name) = filter (is_wanted all name) mentions
 
 -- the ranges of mentions
 abbrev pub ranges_of : Encoding → (text : List ℕ) → List Mention → List Range

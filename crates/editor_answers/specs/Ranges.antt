@@ -1,10 +1,11 @@
 -- Parts of a text as an editor is shown them.
-use Rattle.std.specs.Prelude.{ℕ, List, length, min, max, string_bytes}
+use Rattle.std.specs.Prelude.{ℕ, ◌-◌, ◌==◌, nat_lt, if◌then◌else◌, List, Option, None, Some, length, min, max, string_bytes}
 use Rattle.justfile_lines.specs.Positions.{column_at, line_at}
 use Rattle.justfile_lines.specs.declared.encoding.Encoding.{Encoding}
 use Rattle.justfile_lines.specs.declared.position.Position.{Position}
 use Rattle.text_edits.specs.declared.edit.Range.{Range}
 use Rattle.editor_messages.specs.declared.answer.Diagnostic.{Diagnostic}
+use Rattle.editor_messages.specs.declared.answer.Fold.{Fold}
 use Rattle.editor_messages.specs.declared.answer.Symbol.{Symbol}
 use Rattle.editor_messages.specs.declared.symbol_kind.SymbolKind.{SymbolKind}
 use Rattle.editor_language.specs.declared.parts.Item.{Item}
@@ -19,6 +20,18 @@ position_of encoding text offset = record { line = line_at text offset; column =
 abbrev pub range_of : Encoding → (text : List ℕ) → Span → Range
 range_of encoding text span =
     record { start = position_of encoding text (min span.start (length text)); end = position_of encoding text (max (min span.end (length text)) (min span.start (length text))) }
+
+-- the last line of a range: that before its end, if a line begins there
+abbrev pub last_line_of : Range → ℕ
+last_line_of range = if range.end.column == 0 then range.end.line - 1 else range.end.line
+
+-- the lines from the first of a range to the last, if there are two or more
+abbrev pub fold_in : Range → Option Fold
+fold_in range = if nat_lt range.start.line (last_line_of range) then Some (record { first = range.start.line; last = last_line_of range }) else None
+
+-- the lines of a part of a text that can be folded
+abbrev pub fold_of : Encoding → (text : List ℕ) → Span → Option Fold
+fold_of encoding text span = fold_in (range_of encoding text span)
 
 -- a range and a message
 abbrev pub Told : Type 0

@@ -1,6 +1,8 @@
 //! Addresses of files, and the paths that they stand for.
-ghost use Rattle.std.specs.Prelude.{◌≡◌, IfOk, IfSome, option_copied, option_map, string_bytes};
-ghost use Rattle.editor_answers.specs.Links.{address, IsFolderOf, IsFolderPath};
+ghost use Rattle.std.specs.Prelude.{◌≡◌, IfOk, MatchOption, option_copied, option_map, string_bytes};
+ghost use Rattle.std.specs.Str.{IsUtf8};
+ghost use Rattle.percent_encoding.specs.Percent.{percent_decode};
+ghost use Rattle.editor_answers.specs.Links.{address, IsEncodedPath, IsFolderOf, IsPathOfFolder};
 
 use percent_encoding::{AsciiSet, NON_ALPHANUMERIC, ascii_set, percent_decode, percent_encode};
 use std::alloc::{AllocError, Global};
@@ -45,16 +47,32 @@ pub(crate) fn address(alloc: Global, folder: &str, path: &str) -> Result<String,
 
 /// Returns the path that the address of a folder stands for, without a slash at its end, if it is that
 /// of a folder with files.
+#[tactic(auto, using(crate::proofs::Folders::no_path, crate::proofs::Folders::path_if))]
 pub(crate) fn folder_path(alloc: Global, folder: &str) -> Result<Option<String>, AllocError>
-    ensures { IfOk result
-        (λ made. IfSome (option_map string_bytes made) (IsFolderPath folder.now)) }
+    ensures { IfOk result (λ made. IsPathOfFolder folder.now (option_map string_bytes made)) }
 {
-    let Some(encoded) = folder.strip_prefix(SCHEME) else {
-        return Ok(None);
-    };
-    if !encoded.is_empty() && !encoded.starts_with('/') {
-        return Ok(None);
+    match encoded_path(folder) {
+        Some(encoded) => decoded(alloc, encoded),
+        None => Ok(None),
     }
+}
+
+/// Returns the path that the address of a folder has, encoded, if it is that of a folder with files.
+fn encoded_path(folder: &str) -> Option<&str>
+    ensures { IsEncodedPath folder.now (option_copied result) }
+{
+    let encoded = folder.strip_prefix(SCHEME)?;
+    match encoded.as_bytes() {
+        [] | [b'/', ..] => Some(encoded),
+        [_, ..] => None,
+    }
+}
+
+/// Returns a text that is percent-encoded, decoded, if that is UTF-8.
+fn decoded(alloc: Global, encoded: &str) -> Result<Option<String>, AllocError>
+    ensures { IfOk result (λ made. MatchOption made (IsUtf8 (percent_decode encoded.now) → ⊥)
+        (λ path. string_bytes path ≡ percent_decode encoded.now)) }
+{
     let mut path = Vec::new(alloc);
     percent_decode(encoded.as_bytes()).append_to(&mut path)?;
     match String::from_utf8(path) {

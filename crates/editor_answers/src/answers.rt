@@ -1,9 +1,7 @@
 //! Answers about a text.
 ghost use Rattle.std.specs.Prelude.{◌≡◌, IfErr, IfOk, IsOkUnless, map};
-ghost use Rattle.std.specs.Option.{option_to_list};
 ghost use Rattle.editor_messages.specs.declared.message.Query.TheVariants.{Rename};
-ghost use Rattle.editor_answers.specs.Answers.{FailsFor, IsAbout, IsAnswer, IsRefused, Lacks, LacksName, RefusesName, Replaces, ShowsItems, Tells};
-ghost use Rattle.editor_answers.specs.Formatting.{EditsTo, Formats};
+ghost use Rattle.editor_answers.specs.Answers.{FailsFor, IsAbout, IsAnswer, IsRefused, Lacks, LacksName, RefusesName, Replaces, ShowsFolds, ShowsItems, Tells};
 ghost use Rattle.editor_answers.specs.Links.{LinksIn};
 ghost use Rattle.editor_answers.specs.Ranges.{to_tell, told};
 
@@ -11,13 +9,14 @@ use crate::addresses::{folder_of, folder_path, text_of};
 use crate::asked::Asked;
 use crate::colors::token_numbers;
 use crate::failure::Failure;
+use crate::formats::{format, format_range};
 use crate::names::{definition, hover, references, rename, replaceable};
+use crate::renames::is_right;
 use crate::shown::Shown;
-use editor_language::{Analysis, Language, Mention, Problem, Span};
+use editor_language::{Analysis, Language, Mention, Problem};
 use editor_messages::{Answer, Diagnostic, ErrorCode, Query};
 use justfile_lines::{Encoding, Position};
 use std::alloc::{AllocError, Global};
-use text_edits::{Range, TextEdit, least_edit};
 
 /// Returns what is wrong in a text.
 ///
@@ -55,10 +54,10 @@ pub fn answer<L: Language>(
     analysis: &Analysis,
     query: Query<'_>,
 ) -> Result<Answer, Failure>
-    ensures ok { IfOk result (IsAnswer L.mentioned encoding uri.now text.now analysis.now
-        L.formats L.names L.linked query.entry) }
-    ensures failed { IfErr result (FailsFor (IsRefused L.mentioned encoding uri.now text.now
-        analysis.now L.names query.entry)) }
+    ensures ok { IfOk result (IsAnswer L.knows L.mentioned encoding uri.now text.now
+        analysis.now L.formats L.unformatted L.names L.linked query.entry) }
+    ensures failed { IfErr result (FailsFor (IsRefused L.knows L.mentioned encoding uri.now
+        text.now analysis.now L.names query.entry)) }
 {
     let shown = Shown::new(alloc, encoding, text)?;
     let asked = Asked {
@@ -78,10 +77,12 @@ fn answer_of<L: Language>(
     asked: &Asked<'_>,
     query: Query<'_>,
 ) -> Result<Answer, Failure>
-    ensures ok { IfOk result (IsAnswer L.mentioned asked.now.shown.encoding asked.now.uri.now
-        asked.now.text.now asked.now.analysis.now L.formats L.names L.linked query.entry) }
-    ensures failed { IfErr result (FailsFor (IsRefused L.mentioned asked.now.shown.encoding
-        asked.now.uri.now asked.now.text.now asked.now.analysis.now L.names query.entry)) }
+    ensures ok { IfOk result (IsAnswer L.knows L.mentioned asked.now.shown.encoding
+        asked.now.uri.now asked.now.text.now asked.now.analysis.now L.formats L.unformatted
+        L.names L.linked query.entry) }
+    ensures failed { IfErr result (FailsFor (IsRefused L.knows L.mentioned
+        asked.now.shown.encoding asked.now.uri.now asked.now.text.now asked.now.analysis.now
+        L.names query.entry)) }
 {
     match query {
         Query::Symbols => symbols(alloc, &asked.shown, asked.analysis),
@@ -93,7 +94,9 @@ fn answer_of<L: Language>(
         Query::Complete(position) => complete(alloc, language, asked, position),
         Query::Tokens => tokens(alloc, language, asked),
         Query::Definition(at) => about_name(alloc, language, asked, Query::Definition(at)),
-        Query::References(at) => about_name(alloc, language, asked, Query::References(at)),
+        Query::References(at, all) => {
+            about_name(alloc, language, asked, Query::References(at, all))
+        }
         Query::PrepareRename(at) => about_name(alloc, language, asked, Query::PrepareRename(at)),
         Query::Hover(at) => about_name(alloc, language, asked, Query::Hover(at)),
     }
@@ -111,7 +114,9 @@ fn symbols(alloc: Global, shown: &Shown<'_>, analysis: &Analysis) -> Result<Answ
 
 /// Returns what can be folded in a text.
 fn folds(alloc: Global, shown: &Shown<'_>, analysis: &Analysis) -> Result<Answer, Failure>
-    ensures { IsOkUnless result Failure.Memory }
+    ensures ok { IfOk result (ShowsFolds shown.now.encoding shown.now.lines.text.now
+        analysis.now.items.items) }
+    ensures failed { IsOkUnless result Failure.Memory }
 {
     let folds = shown.folds(alloc, &analysis.items)?;
     Ok(Answer::Folds(folds))
@@ -138,9 +143,9 @@ fn about_name<L: Language>(
     asked: &Asked<'_>,
     query: Query<'_>,
 ) -> Result<Answer, Failure>
-    ensures ok { IfOk result (Tells L.mentioned asked.now.shown.encoding asked.now.uri.now
-        asked.now.text.now asked.now.analysis.now query.entry) }
-    ensures failed { IfErr result (FailsFor (Lacks L.mentioned asked.now.shown.encoding
+    ensures ok { IfOk result (Tells L.knows L.mentioned asked.now.shown.encoding
+        asked.now.uri.now asked.now.text.now asked.now.analysis.now query.entry) }
+    ensures failed { IfErr result (FailsFor (Lacks L.knows L.mentioned asked.now.shown.encoding
         asked.now.uri.now asked.now.text.now asked.now.analysis.now query.entry)) }
 {
     let mentions = asked.mentions(alloc, language)?;
@@ -156,16 +161,16 @@ fn told<L: Language>(
     mentions: &[Mention],
     query: Query<'_>,
 ) -> Result<Answer, Failure>
-    ensures ok { IfOk result (IsAbout asked.now.shown.encoding asked.now.uri.now
-        asked.now.text.now query.entry mentions.now) }
-    ensures failed { IfErr result (FailsFor (LacksName asked.now.shown.encoding
-        asked.now.text.now query.entry mentions.now)) }
+    ensures ok { IfOk result (IsAbout L.knows L.mentioned asked.now.shown.encoding
+        asked.now.uri.now asked.now.text.now query.entry mentions.now) }
+    ensures failed { IfErr result (FailsFor (LacksName L.knows L.mentioned
+        asked.now.shown.encoding asked.now.text.now query.entry mentions.now)) }
 {
     match query {
         Query::Definition(position) => definition(alloc, asked, mentions, position),
-        Query::References(position) => references(alloc, asked, mentions, position),
+        Query::References(position, all) => references(alloc, asked, mentions, position, all),
         Query::PrepareRename(position) => replaceable(asked, mentions, position),
-        Query::Rename(position, new) => rename(alloc, asked, mentions, position, new),
+        Query::Rename(position, new) => { rename(alloc, language, asked, mentions, position, new) }
         Query::Hover(position) => hover(alloc, language, asked, mentions, position),
         Query::Symbols
         | Query::Folds
@@ -177,8 +182,9 @@ fn told<L: Language>(
     }
 }
 
-/// Returns edits that replace the name at a position, if the new one is a name.
-#[tactic(auto, using(crate::proofs::Failed::lacks_if, crate::proofs::Failed::not_named, crate::proofs::Failed::replaces_if))]
+/// Returns edits that replace the name at a position, if the new one is a name and nothing is wrong in
+/// the text. Otherwise not all places of the name are known.
+#[tactic(auto, using(crate::proofs::Failed::not_named))]
 fn replace<L: Language>(
     alloc: Global,
     language: &L,
@@ -186,74 +192,45 @@ fn replace<L: Language>(
     position: Position,
     new: &str,
 ) -> Result<Answer, Failure>
-    ensures ok { IfOk result (λ answer. Replaces L.names new.now (Tells L.mentioned
-        asked.now.shown.encoding asked.now.uri.now asked.now.text.now asked.now.analysis.now
-        (Rename position new.entry) answer)) }
-    ensures failed { IfErr result (FailsFor (λ code. RefusesName L.names new.now (Lacks L.mentioned
-        asked.now.shown.encoding asked.now.uri.now asked.now.text.now asked.now.analysis.now
-        (Rename position new.entry) code) code)) }
+    ensures ok { IfOk result (λ answer. Replaces L.names asked.now.analysis.now new.now
+        (Tells L.knows L.mentioned asked.now.shown.encoding asked.now.uri.now
+        asked.now.text.now asked.now.analysis.now (Rename position new.entry) answer)) }
+    ensures failed { IfErr result (FailsFor (λ code. RefusesName L.names asked.now.analysis.now
+        new.now (Lacks L.knows L.mentioned asked.now.shown.encoding asked.now.uri.now
+        asked.now.text.now asked.now.analysis.now (Rename position new.entry) code) code)) }
 {
     if language.is_name(alloc, new)? {
-        about_name(alloc, language, asked, Query::Rename(position, new))
+        replace_right(alloc, language, asked, position, new)
     } else {
         let message = "the new name isn't a name";
         Err(Failure::Refused(ErrorCode::InvalidParams, message))
     }
 }
 
-/// Returns the least edit that formats a text, if it has a formatted text.
-fn format<L: Language>(
-    alloc: Global,
-    language: &L,
-    encoding: Encoding,
-    text: &str,
-) -> Result<Answer, Failure>
-    ensures ok { IfOk result (Formats L.formats encoding text.now) }
-    ensures failed { IsOkUnless result Failure.Memory }
-{
-    match language.formatted(alloc, text)? {
-        Some(formatted) => edits_to(alloc, encoding, text, formatted.as_str()),
-        None => Ok(Answer::Nothing),
-    }
-}
-
-/// Returns the least edit that leads from a text to another, if they differ.
-fn edits_to(alloc: Global, encoding: Encoding, old: &str, new: &str) -> Result<Answer, Failure>
-    ensures ok { IfOk result (EditsTo encoding old.now new.now) }
-    ensures failed { IsOkUnless result Failure.Memory }
-{
-    let edit = least_edit(alloc, encoding, old, new)?;
-    let edits = edits_of(alloc, edit)?;
-    Ok(Answer::Edits(edits))
-}
-
-/// Returns the edit, or no edits if there is none.
-fn edits_of(alloc: Global, edit: Option<TextEdit>) -> Result<Vec<TextEdit>, AllocError>
-    ensures { IfOk result (λ edits. edits.items ≡ option_to_list edit) }
-{
-    let mut edits = Vec::new(alloc);
-    if let Some(edit) = edit {
-        edits.push(edit)?;
-    }
-    Ok(edits)
-}
-
-/// Returns edits that format what is in a range.
-fn format_range<L: Language>(
+/// Returns edits that replace the name at a position by one that is a name, if nothing is wrong in the
+/// text.
+#[tactic(auto, using(crate::proofs::Failed::lacks_if, crate::proofs::Failed::wrong_text, crate::proofs::Failed::replaces_if))]
+fn replace_right<L: Language>(
     alloc: Global,
     language: &L,
     asked: &Asked<'_>,
-    range: Range,
+    position: Position,
+    new: &str,
 ) -> Result<Answer, Failure>
-    ensures { IsOkUnless result Failure.Memory }
+    requires { L.names new.now }
+    ensures ok { IfOk result (λ answer. Replaces L.names asked.now.analysis.now new.now
+        (Tells L.knows L.mentioned asked.now.shown.encoding asked.now.uri.now
+        asked.now.text.now asked.now.analysis.now (Rename position new.entry) answer)) }
+    ensures failed { IfErr result (FailsFor (λ code. RefusesName L.names asked.now.analysis.now
+        new.now (Lacks L.knows L.mentioned asked.now.shown.encoding asked.now.uri.now
+        asked.now.text.now asked.now.analysis.now (Rename position new.entry) code) code)) }
 {
-    let span = Span {
-        start: asked.shown.offset(range.start),
-        end: asked.shown.offset(range.end),
-    };
-    let parts = language.formatted_items(alloc, asked.text, asked.analysis, span)?;
-    let edits = asked.shown.part_edits(alloc, &parts)?;
-    Ok(Answer::Edits(edits))
+    if is_right(asked.analysis) {
+        about_name(alloc, language, asked, Query::Rename(position, new))
+    } else {
+        let message = "the text has an error, so not all places of the name are known";
+        Err(Failure::Refused(ErrorCode::RequestFailed, message))
+    }
 }
 
 /// Returns what can be written at a position.

@@ -1,9 +1,11 @@
 //! Kinds of tokens, as the protocol writes them: five numbers for each token, of which the first two
 //! are how far it is after the one before, in lines, and in columns if it is in the same line.
+
 use crate::shown::Shown;
 use editor_language::Colored;
-use justfile_lines::Position;
+use justfile_lines::{Place, Position};
 use std::alloc::{AllocError, Global};
+use text_edits::Range;
 
 /// Returns the numbers of tokens. A token over several lines is one for each line.
 pub(crate) fn token_numbers(
@@ -13,8 +15,11 @@ pub(crate) fn token_numbers(
 ) -> Result<Vec<usize>, AllocError> {
     let mut numbers = Vec::new(alloc);
     let mut before = Position { line: 0, column: 0 };
+    let mut known = Place::start();
     for token in tokens {
-        before = push_token(&mut numbers, shown, token, before)?;
+        let (range, end) = shown.range_after(known, token.span);
+        before = push_token(&mut numbers, shown, range, token.kind.index(), before)?;
+        known = end;
     }
     Ok(numbers)
 }
@@ -23,11 +28,10 @@ pub(crate) fn token_numbers(
 fn push_token(
     numbers: &mut Vec<usize>,
     shown: &Shown<'_>,
-    token: &Colored,
+    range: Range,
+    kind: usize,
     before: Position,
 ) -> Result<Position, AllocError> {
-    let range = shown.range(token.span);
-    let kind = token.kind.index();
     let mut last = before;
     for line in range.start.line..range.end.line.saturating_add(1) {
         let start = if line == range.start.line {

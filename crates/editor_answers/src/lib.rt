@@ -6,7 +6,9 @@ mod answers;
 mod asked;
 mod colors;
 mod failure;
+mod formats;
 mod names;
+mod renames;
 mod shown;
 
 pub use answers::{answer, diagnostics};

@@ -1,19 +1,18 @@
 //! Where a name is defined and used, and edits that replace it.
 ghost use Rattle.std.specs.Prelude.{◌≡◌, ◌∷◌, [], IfErr, IfOk, IsOkUnless, filter, map};
 ghost use Rattle.std.specs.Option.{option_copied};
-ghost use Rattle.editor_language.specs.Mentions.{is_like};
 ghost use Rattle.editor_answers.specs.Answers.{FailsFor};
-ghost use Rattle.editor_answers.specs.Names.{AnswersHover, AnswersPlaces, Bounds, Describes, IsDefinedAt, IsNameAt, Locates, definitions_of, if_defined, mentions_of, ranges_of};
+ghost use Rattle.editor_answers.specs.Names.{AnswersHover, AnswersPlaces, Bounds, Describes, IsDefinedAt, IsNameAt, Locates, definitions_of, if_defined, is_wanted, mentions_of};
 ghost use Rattle.editor_answers.specs.Ranges.{range_of};
-ghost use Rattle.editor_answers.specs.Renames.{AnswersEdits, PutInto, Renames};
+ghost use Rattle.editor_answers.specs.Renames.{Declines, Renames};
 
 use crate::asked::Asked;
 use crate::failure::Failure;
-use editor_language::{Language, Mention, Span, definition_of, mention_at, mentions_like};
-use editor_messages::{Answer, ErrorCode, Hover, Rename};
+use crate::renames::replaced;
+use editor_language::{Language, Mention, Span, definition_of, is_like, mention_at};
+use editor_messages::{Answer, ErrorCode, Hover};
 use justfile_lines::Position;
 use std::alloc::{AllocError, Global};
-use text_edits::{Range, TextEdit};
 
 /// Returns where the name at a position is defined.
 #[tactic(auto, using(crate::proofs::Found::located))]
@@ -60,36 +59,64 @@ fn one_span(alloc: Global, span: Span) -> Result<Vec<Span>, AllocError>
     Ok(spans)
 }
 
-/// Returns where the name at a position is defined or used.
+/// Returns where the name at a position is used, and where it is defined too if all are asked for.
 #[tactic(auto, using(crate::proofs::Found::located))]
 pub(crate) fn references(
     alloc: Global,
     asked: &Asked<'_>,
     mentions: &[Mention],
     position: Position,
+    all: bool,
 ) -> Result<Answer, Failure>
     ensures ok { IfOk result (Locates asked.now.shown.encoding asked.now.text.now mentions.now
-        position asked.now.uri.now (mentions_of mentions.now)) }
+        position asked.now.uri.now (mentions_of all mentions.now)) }
     ensures failed { IsOkUnless result Failure.Memory }
 {
     let name = name_at(asked, mentions, position);
-    let spans = mention_spans(alloc, mentions, name)?;
+    let spans = mention_spans(alloc, mentions, name, all)?;
     places(alloc, asked, &spans)
 }
 
-/// Returns where a name is defined or used, if there is one.
+/// Returns where a name is used, and where it is defined if all are asked for, if there is one.
 fn mention_spans(
     alloc: Global,
     mentions: &[Mention],
     name: Option<&Mention>,
+    all: bool,
 ) -> Result<Vec<Span>, AllocError>
     ensures { IfOk result (λ spans. spans.items
-        ≡ map (λ m. m.span) (mentions_of mentions.now (option_copied name.entry))) }
+        ≡ map (λ m. m.span) (mentions_of all mentions.now (option_copied name.entry))) }
 {
     match name {
-        Some(name) => mentions_like(alloc, mentions, name),
+        Some(name) => wanted_spans(alloc, mentions, name, all),
         None => Ok(Vec::new(alloc)),
     }
+}
+
+/// Returns the places of the mentions of a name that are asked for, in their order.
+fn wanted_spans(
+    alloc: Global,
+    mentions: &[Mention],
+    name: &Mention,
+    all: bool,
+) -> Result<Vec<Span>, AllocError>
+    ensures { IfOk result (λ spans. spans.items
+        ≡ map (λ m. m.span) (filter (is_wanted all name.now) mentions.now)) }
+{
+    let mut spans = Vec::new(alloc);
+    for mention in mentions {
+        if is_wanted(all, name, mention) {
+            spans.push(mention.span)?;
+        }
+    }
+    Ok(spans)
+}
+
+/// Whether a mention is of the name, and one of those that are asked for.
+fn is_wanted(all: bool, name: &Mention, mention: &Mention) -> bool
+    ensures { result ≡ is_wanted all name.now mention.now }
+{
+    is_like(name, mention) && (all || !mention.defines)
 }
 
 /// Returns places in the document.
@@ -144,7 +171,7 @@ fn if_defined<'a>(mentions: &'a [Mention], name: Option<&'a Mention>) -> Option<
 }
 
 /// Returns the range of the name at a position, if it is defined in the document.
-#[tactic(auto, using(crate::proofs::Found::bounded, crate::proofs::Failed::lacking))]
+#[tactic(auto, using(crate::proofs::Found::bounded, crate::proofs::Failed::lacks_it))]
 pub(crate) fn replaceable(
     asked: &Asked<'_>,
     mentions: &[Mention],
@@ -168,59 +195,27 @@ fn no_name() -> Failure
     Failure::Refused(ErrorCode::RequestFailed, "there is no name to replace")
 }
 
-/// Returns edits that replace the name at a position, if it is defined in the document.
-#[tactic(auto, using(crate::proofs::Found::renamed, crate::proofs::Failed::only_memory, crate::proofs::Failed::lacking))]
-pub(crate) fn rename(
+/// Returns edits that replace the name at a position, if it is defined in the document and can be
+/// replaced.
+#[tactic(auto, using(crate::proofs::Found::renamed, crate::proofs::Failed::spoiling, crate::proofs::Failed::declining))]
+pub(crate) fn rename<L: Language>(
     alloc: Global,
+    language: &L,
     asked: &Asked<'_>,
     mentions: &[Mention],
     position: Position,
     new: &str,
 ) -> Result<Answer, Failure>
-    ensures ok { IfOk result (Renames asked.now.shown.encoding asked.now.uri.now
-        asked.now.text.now mentions.now position new.now) }
+    ensures ok { IfOk result (Renames L.knows L.mentioned asked.now.shown.encoding
+        asked.now.uri.now asked.now.text.now mentions.now position new.now) }
     ensures failed { IfErr result (FailsFor (λ code. (code ≡ ErrorCode.RequestFailed)
-        × IsDefinedAt asked.now.shown.encoding asked.now.text.now mentions.now position None)) }
+        × Declines L.knows L.mentioned asked.now.shown.encoding asked.now.text.now mentions.now
+        position new.now)) }
 {
     match defined_at(asked, mentions, position) {
-        Some(name) => replaced(alloc, asked, mentions, name, new),
+        Some(name) => replaced(alloc, language, asked, mentions, name, new),
         None => Err(no_name()),
     }
-}
-
-/// Returns edits that replace all mentions of a name.
-fn replaced(
-    alloc: Global,
-    asked: &Asked<'_>,
-    mentions: &[Mention],
-    name: &Mention,
-    new: &str,
-) -> Result<Answer, Failure>
-    ensures ok { IfOk result (AnswersEdits asked.now.uri.now (PutInto
-        (ranges_of asked.now.shown.encoding asked.now.text.now
-        (filter (is_like name.now) mentions.now)) new.now)) }
-    ensures failed { IsOkUnless result Failure.Memory }
-{
-    let spans = mentions_like(alloc, mentions, name)?;
-    let ranges = asked.ranges(alloc, &spans)?;
-    let edits = same_edits(alloc, &ranges, new)?;
-    let uri = String::from_str(alloc, asked.uri)?;
-    Ok(Answer::Rename(Rename { uri, edits }))
-}
-
-/// Returns edits that put a text in the place of each range.
-fn same_edits(alloc: Global, ranges: &[Range], new: &str) -> Result<Vec<TextEdit>, AllocError>
-    ensures { IfOk result (λ edits. PutInto ranges.now new.now edits.items) }
-{
-    let mut edits = Vec::new(alloc);
-    for range in ranges {
-        let text = String::from_str(alloc, new)?;
-        edits.push(TextEdit {
-            range: *range,
-            text,
-        })?;
-    }
-    Ok(edits)
 }
 
 /// Returns what is known of the name at a position, if it is defined in the document.

@@ -1,13 +1,15 @@
 //! What is known of a text, as an editor is shown it.
-ghost use Rattle.std.specs.Prelude.{◌≡◌, ◌≤◌, IfOk, length, map};
+ghost use Rattle.std.specs.Prelude.{◌≡◌, ◌≤◌, ◌++◌, IfOk, OnOk, length, map};
+ghost use Rattle.std.specs.List.{filter_map};
+ghost use Rattle.std.specs.Option.{option_to_list};
 ghost use Rattle.editor_answers.specs.Links.{pointed, to_point};
-ghost use Rattle.justfile_lines.specs.Positions.{IsOffset};
-ghost use Rattle.editor_answers.specs.Ranges.{position_of, range_of, shown, to_show, to_tell, told};
+ghost use Rattle.justfile_lines.specs.Positions.{IsOffset, IsPlace};
+ghost use Rattle.editor_answers.specs.Ranges.{fold_of, last_line_of, position_of, range_of, shown, to_show, to_tell, told};
 
 use crate::addresses::address;
 use editor_language::{FileLink, Item, Part, Problem, Span};
 use editor_messages::{Diagnostic, Fold, Link, Symbol};
-use justfile_lines::{Encoding, Lines, Position};
+use justfile_lines::{Encoding, Lines, Place, Position};
 use std::alloc::{AllocError, Global};
 use text_edits::{Range, TextEdit};
 
@@ -37,25 +39,42 @@ impl<'a> Shown<'a> {
         self.lines.offset(self.encoding, position)
     }
 
-    /// Returns the position of an offset.
-    fn position(&self, offset: usize) -> Position
-        requires { offset ≤ length self.now.lines.text.now }
-        ensures { result ≡ position_of self.now.encoding self.now.lines.text.now offset }
+    /// Returns the place of an offset, by a known place.
+    fn place(&self, known: Place, offset: usize) -> Place
+        requires within { offset ≤ length self.now.lines.text.now }
+        requires place { IsPlace self.now.encoding self.now.lines.text.now known }
+        ensures place { IsPlace self.now.encoding self.now.lines.text.now result }
+        ensures position { result.position
+            ≡ position_of self.now.encoding self.now.lines.text.now offset }
     {
-        self.lines.position(self.encoding, offset)
+        self.lines.place(self.encoding, known, offset)
     }
 
     /// Returns the range of a part of the text.
     pub(crate) fn range(&self, span: Span) -> Range
         ensures { result ≡ range_of self.now.encoding self.now.lines.text.now span }
     {
+        let (range, _) = self.range_after(Place::start(), span);
+        range
+    }
+
+    /// Returns the range of a part of the text, and the place of its end, by a known place: the text
+    /// between that and the part is gone along if they are in one line.
+    pub(crate) fn range_after(&self, known: Place, span: Span) -> (Range, Place)
+        requires { IsPlace self.now.encoding self.now.lines.text.now known }
+        ensures range { result.0
+            ≡ range_of self.now.encoding self.now.lines.text.now span }
+        ensures place { IsPlace self.now.encoding self.now.lines.text.now result.1 }
+    {
         let last = self.lines.end();
-        let start = span.start.min(last);
-        let end = span.end.min(last).max(start);
-        Range {
-            start: self.position(start),
-            end: self.position(end),
-        }
+        let first = span.start.min(last);
+        let start = self.place(known, first);
+        let end = self.place(start, span.end.min(last).max(first));
+        let range = Range {
+            start: start.position,
+            end: end.position,
+        };
+        (range, end)
     }
 
     /// Returns the width of a line.
@@ -75,8 +94,11 @@ impl<'a> Shown<'a> {
             ≡ map (range_of self.now.encoding self.now.lines.text.now) spans.now) }
     {
         let mut ranges = Vec::new(alloc);
+        let mut known = Place::start();
         for span in spans {
-            ranges.push(self.range(*span))?;
+            let (range, end) = self.range_after(known, *span);
+            ranges.push(range)?;
+            known = end;
         }
         Ok(ranges)
     }
@@ -136,14 +158,12 @@ impl<'a> Shown<'a> {
     }
 
     /// Returns the lines of a part of the text, if there are two or more.
-    fn fold(&self, span: Span) -> Option<Fold> {
+    fn fold(&self, span: Span) -> Option<Fold>
+        ensures { result ≡ fold_of self.now.encoding self.now.lines.text.now span }
+    {
         let range = self.range(span);
         let first = range.start.line;
-        let last = if range.end.column == 0 {
-            range.end.line.saturating_sub(1)
-        } else {
-            range.end.line
-        };
+        let last = last_line_of(range);
         if first < last {
             Some(Fold { first, last })
         } else {
@@ -152,12 +172,13 @@ impl<'a> Shown<'a> {
     }
 
     /// Returns the lines that can be folded: of items.
-    pub(crate) fn folds(&self, alloc: Global, items: &[Item]) -> Result<Vec<Fold>, AllocError> {
+    pub(crate) fn folds(&self, alloc: Global, items: &[Item]) -> Result<Vec<Fold>, AllocError>
+        ensures { IfOk result (λ folds. folds.items ≡ filter_map
+            (λ i. fold_of self.now.encoding self.now.lines.text.now i.span) items.now) }
+    {
         let mut folds = Vec::new(alloc);
         for item in items {
-            if let Some(fold) = self.fold(item.span) {
-                folds.push(fold)?;
-            }
+            push_fold(&mut folds, self.fold(item.span))?;
         }
         Ok(folds)
     }
@@ -207,5 +228,26 @@ impl<'a> Shown<'a> {
         let text = part.text.clone()?;
         let range = self.range(part.span);
         Ok(TextEdit { range, text })
+    }
+}
+
+/// Adds lines that can be folded, if there are any.
+fn push_fold(folds: &mut Vec<Fold>, fold: Option<Fold>) -> Result<(), AllocError>
+    ensures { OnOk result (folds.new.items ≡ folds.old.items ++ option_to_list fold) }
+{
+    if let Some(fold) = fold {
+        folds.push(fold)?;
+    }
+    Ok(())
+}
+
+/// Returns the last line of a range: that before its end, if a line begins there.
+fn last_line_of(range: Range) -> usize
+    ensures { result ≡ last_line_of range }
+{
+    if range.end.column == 0 {
+        range.end.line.saturating_sub(1)
+    } else {
+        range.end.line
     }
 }

@@ -1,9 +1,9 @@
 -- What is asked, and what a message is, by data of JSON. Texts are lists of bytes.
-use Rattle.std.specs.Prelude.{ℕ, ℤ, List, Bool, true, false, cond, ◌||◌, Option, Some, None, codes, is_some, option_and_then, option_map}
+use Rattle.std.specs.Prelude.{ℕ, ℤ, List, Bool, true, false, cond, ◌||◌, Option, Some, None, codes, is_some, option_and_then, option_map, unwrap_or}
 use Rattle.std.specs.List.{find}
 use Rattle.std.specs.Str.{bytes_eq}
 use Rattle.serde_json.specs.Data.{Data, null, boolean, number, string, array, object, Items, no_items, item}
-use Rattle.serde_json.specs.Find.{as_array, as_i64, as_number, as_str, get}
+use Rattle.serde_json.specs.Find.{as_array, as_bool, as_i64, as_number, as_str, get}
 use Rattle.justfile_lines.specs.declared.encoding.Encoding.{Encoding}
 use Rattle.justfile_lines.specs.declared.encoding.Encoding.TheVariants.{Utf8, Utf16}
 use Rattle.justfile_lines.specs.declared.position.Position.{Position}
@@ -44,13 +44,23 @@ range_in d = option_and_then range_of (get (codes "range") d)
 abbrev pub rename_in : Data → Option Question
 rename_in d = both (λ name position. rename position name) (text_in (codes "newName") d) (position_in d)
 
+-- whether the places of definitions are asked for: they are unless the parameters say otherwise
+abbrev pub said_of_definitions : Data → Option Bool
+said_of_definitions d = option_and_then (λ c. option_and_then as_bool (get (codes "includeDeclaration") c)) (get (codes "context") d)
+
+abbrev pub with_definitions : Data → Bool
+with_definitions d = unwrap_or (said_of_definitions d) true
+
+abbrev pub references_in : Data → Option Question
+references_in d = option_map (λ p. plain (queries.References p (with_definitions d))) (position_in d)
+
 abbrev pub question_in : Method → Data → Option Question
 question_in methods.DocumentSymbol d = Some (plain queries.Symbols)
 question_in methods.FoldingRange d = Some (plain queries.Folds)
 question_in methods.Formatting d = Some (plain queries.Format)
 question_in methods.RangeFormatting d = option_map (λ r. plain (queries.FormatRange r)) (range_in d)
 question_in methods.Definition d = at_position queries.Definition d
-question_in methods.References d = at_position queries.References d
+question_in methods.References d = references_in d
 question_in methods.PrepareRename d = at_position queries.PrepareRename d
 question_in methods.Rename d = rename_in d
 question_in methods.Hover d = at_position queries.Hover d

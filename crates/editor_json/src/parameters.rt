@@ -3,7 +3,7 @@ ghost use Rattle.std.specs.Prelude.{◌≡◌, cond, option_and_then, option_map
 ghost use Rattle.std.specs.List.{list_any};
 ghost use Rattle.justfile_lines.specs.declared.encoding.Encoding.TheVariants.{Utf8, Utf16};
 ghost use Rattle.serde_json.specs.View.{items_view, view};
-ghost use Rattle.editor_json.specs.Requests.{about_document, best_of, is_utf8, offered, offers_utf8, question_in, question_of, range_in, rename_in, wish_in, wish_of};
+ghost use Rattle.editor_json.specs.Requests.{about_document, best_of, is_utf8, offered, offers_utf8, question_in, question_of, range_in, references_in, rename_in, said_of_definitions, wish_in, wish_of, with_definitions};
 
 use crate::members::{document_in, position_in, range_of, text_in, uri_of};
 use editor_messages::{Method, Query, Request};
@@ -71,7 +71,7 @@ fn query_of<'a>(method: Method, parameters: &'a Value) -> Option<Query<'a>>
         Method::Formatting => Some(Query::Format),
         Method::RangeFormatting => Some(Query::FormatRange(range_in(parameters)?)),
         Method::Definition => Some(Query::Definition(position_in(parameters)?)),
-        Method::References => Some(Query::References(position_in(parameters)?)),
+        Method::References => references_in(parameters),
         Method::PrepareRename => Some(Query::PrepareRename(position_in(parameters)?)),
         Method::Rename => rename_in(parameters),
         Method::Hover => Some(Query::Hover(position_in(parameters)?)),
@@ -80,6 +80,34 @@ fn query_of<'a>(method: Method, parameters: &'a Value) -> Option<Query<'a>>
         Method::DocumentLink => Some(Query::Links),
         _ => None,
     }
+}
+
+/// Returns of which name the places are asked for, and whether those of its definitions are.
+fn references_in<'a>(parameters: &'a Value) -> Option<Query<'a>>
+    ensures { option_map question_of result ≡ references_in (view parameters.now) }
+{
+    let position = position_in(parameters)?;
+    Some(Query::References(position, with_definitions(parameters)))
+}
+
+/// Whether the places of definitions are asked for: they are unless the parameters say otherwise.
+fn with_definitions(parameters: &Value) -> bool
+    ensures { result ≡ with_definitions (view parameters.now) }
+{
+    match said_of_definitions(parameters) {
+        Some(wanted) => wanted,
+        None => true,
+    }
+}
+
+/// Returns what parameters say of the places of definitions.
+fn said_of_definitions(parameters: &Value) -> Option<bool>
+    ensures { result ≡ said_of_definitions (view parameters.now) }
+{
+    parameters
+        .get("context")?
+        .get("includeDeclaration")?
+        .as_bool()
 }
 
 /// Returns the range that parameters have.

@@ -1,5 +1,5 @@
 //! What is asked of a language.
-ghost use Rattle.std.specs.Prelude.{◌↔◌, ℕ, List, Option, IfOk, IfSome, IsTrue, option_copied, string_bytes};
+ghost use Rattle.std.specs.Prelude.{◌↔◌, ℕ, List, Option, IfOk, IsTrue, MatchOption, option_copied, string_bytes};
 ghost use Rattle.editor_language.specs.declared.mention.Mention.{Mention};
 ghost use Rattle.editor_language.specs.declared.parts.Analysis.{Analysis};
 ghost use Rattle.editor_language.specs.declared.parts.FileLink.{FileLink};
@@ -13,6 +13,9 @@ use std::alloc::{AllocError, Global};
 pub trait Language {
     /// The second text is the formatted text of the first.
     ghost formats: { List ℕ → List ℕ → Type 0 };
+
+    /// The text has no formatted text.
+    ghost unformatted: { List ℕ → Type 0 };
 
     /// This is known of the text.
     ghost knows: { List ℕ → Analysis → Type 0 };
@@ -56,8 +59,8 @@ pub trait Language {
     ///
     /// Memory ran out.
     fn formatted(&self, alloc: Global, text: &str) -> Result<Option<String>, AllocError>
-        ensures { IfOk result
-            (λ made. IfSome made (λ formatted. formats text.now (string_bytes formatted))) };
+        ensures { IfOk result (λ made. MatchOption made (unformatted text.now)
+            (λ formatted. formats text.now (string_bytes formatted))) };
 
     /// Returns what takes the place of the items in a part of a text, to format them.
     ///

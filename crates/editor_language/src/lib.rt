@@ -7,5 +7,5 @@ mod mention;
 mod parts;
 
 pub use language::Language;
-pub use mention::{Mention, Role, definition_of, mention_at, mentions_like};
+pub use mention::{Mention, Role, definition_of, is_like, mention_at, mentions_like, same_scope};
 pub use parts::{Analysis, Colored, FileLink, Item, Part, Problem, Span, TokenType};

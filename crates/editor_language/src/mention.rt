@@ -22,7 +22,7 @@ pub enum Role {
 
 impl Role {
     /// Returns a number of its own for each.
-    fn number(self) -> u8
+    pub fn number(self) -> u8
         ensures { result ≡ role_number self }
     {
         match self {
@@ -64,7 +64,7 @@ pub fn mention_at(mentions: &[Mention], offset: usize) -> Option<&Mention>
 }
 
 /// Whether two scopes are the same.
-fn same_scope(first: Option<usize>, second: Option<usize>) -> bool
+pub fn same_scope(first: Option<usize>, second: Option<usize>) -> bool
     ensures { result ≡ same_scope first second }
 {
     match (first, second) {
@@ -75,7 +75,7 @@ fn same_scope(first: Option<usize>, second: Option<usize>) -> bool
 }
 
 /// Whether two mentions are of the same name.
-fn is_like(first: &Mention, second: &Mention) -> bool
+pub fn is_like(first: &Mention, second: &Mention) -> bool
     ensures { result ≡ is_like first.now second.now }
 {
     first.role.number() == second.role.number()

@@ -26,8 +26,8 @@ pub enum Query<'a> {
     FormatRange(Range),
     /// Where the name at a position is defined.
     Definition(Position),
-    /// Where the name at a position is defined or used.
-    References(Position),
+    /// Where the name at a position is used, and where it is defined too if that is asked.
+    References(Position, bool),
     /// Whether there is a name at a position that can be replaced.
     PrepareRename(Position),
     /// Edits that replace the name at a position by another one.

@@ -1,5 +1,5 @@
 -- What is known and answered after a body that is no JSON, and after a value.
-use Rattle.std.proofs.Common.{◌≡◌, ℕ, List, Option, None, Result, Ok, Err, IfOk}
+use Rattle.std.proofs.Common.{◌≡◌, ℕ, List, Option, None, Result, Ok, Err, IfOk, OnErr}
 use Rattle.serde_json.specs.Data.{Data}
 use Rattle.serde_json.specs.declared.value.Value.{Value}
 use Rattle.editor_messages.specs.declared.error_code.ErrorCode.TheVariants.{ParseError}
@@ -10,7 +10,7 @@ use Rattle.editor_language.specs.declared.parts.FileLink.{FileLink}
 use Rattle.editor_json.specs.Received.{IsParsed}
 use Rattle.editor_json.specs.Requests.{said_by, said_in}
 use Rattle.editor_server.proofs.Kept.{known_empty}
-use Rattle.editor_server.specs.Answering.{Answered, Handles, HandlesParsed, IsSent, IsUnread, LosesTexts}
+use Rattle.editor_server.specs.Answering.{Answered, FailsAt, Handles, HandlesParsed, IsSent, IsUnread, LosesTexts, Unanswered, UnansweredParsed, parsed, unsent}
 use Rattle.editor_server.specs.Changed.{AreKnown}
 use Rattle.editor_server.specs.Steps.{IsRefusal, Reacts}
 use Rattle.editor_server.specs.declared.reaction.Reaction.{Reaction}
@@ -24,13 +24,29 @@ pub unread : {E : Type 0} (old new : Server) (reaction : Reaction) (r : Result S
 unread old new reaction (Ok done) loses refuses h = (loses, (reaction, refuses, h))
 unread old new reaction (Err e) loses refuses h = tt
 
-module _ (knows : List ℕ → Analysis → Type 0) (mentioned : List ℕ → Analysis → List Mention → Type 0) (formats : List ℕ → List ℕ → Type 0) (names : List ℕ → Type 0) (linked : Option (List ℕ) → List ℕ → Analysis → List FileLink → Type 0) (old new : Server) where
-  pub handled : {E : Type 0} (d : Data) (message : Message) (reaction : Reaction) (r : Result Sent E) → said_by message ≡ said_in d → Reacts knows mentioned formats names linked message old new reaction → IfOk r (IsSent reaction)
-      → IfOk r (Handles knows mentioned formats names linked d old new)
+module _ (knows : List ℕ → Analysis → Type 0) (mentioned : List ℕ → Analysis → List Mention → Type 0) (formats : List ℕ → List ℕ → Type 0) (unformatted names : List ℕ → Type 0) (linked : Option (List ℕ) → List ℕ → Analysis → List FileLink → Type 0) (old new : Server) where
+  pub handled : {E : Type 0} (d : Data) (message : Message) (reaction : Reaction) (r : Result Sent E) → said_by message ≡ said_in d → Reacts knows mentioned formats unformatted names linked message old new reaction → IfOk r (IsSent reaction)
+      → IfOk r (Handles knows mentioned formats unformatted names linked d old new)
   handled d message reaction (Ok done) says reacts h = (message, reaction, says, reacts, h)
   handled d message reaction (Err e) says reacts h = tt
 
-  pub answered : {E : Type 0} (body : List ℕ) (value : Option Value) (r : Result Sent E) → IsParsed body value → IfOk r (HandlesParsed knows mentioned formats names linked value old new)
-      → IfOk r (Answered knows mentioned formats names linked body old new)
-  answered body value (Ok done) parsed h = (value, parsed, h)
-  answered body value (Err e) parsed h = tt
+  pub answered : {E : Type 0} (body : List ℕ) (value : Option Value) (r : Result Sent E) → IsParsed body value → IfOk r (HandlesParsed knows mentioned formats unformatted names linked value old new)
+      → IfOk r (Answered knows mentioned formats unformatted names linked body old new)
+  answered body value (Ok done) is h = (value, is, h)
+  answered body value (Err e) is h = tt
+
+  -- what was done isn't sent
+  pub unanswered : {A E : Type 0} (d : Data) (message : Message) (reaction : Reaction) (r : Result A E) → said_by message ≡ said_in d
+      → Reacts knows mentioned formats unformatted names linked message old new reaction → OnErr r (Unanswered knows mentioned formats unformatted names linked d old new)
+  unanswered d message reaction (Ok done) says reacts = tt
+  unanswered d message reaction (Err e) says reacts = unsent message reaction says reacts
+
+  pub fails_at : {A E : Type 0} (body : List ℕ) (value : Option Value) (r : Result A E) → IsParsed body value
+      → OnErr r (UnansweredParsed knows mentioned formats unformatted names linked value old new) → OnErr r (FailsAt knows mentioned formats unformatted names linked body old new)
+  fails_at body value (Ok done) is h = tt
+  fails_at body value (Err e) is h = parsed value is h
+
+-- nothing is sent after a body that is no JSON
+pub lost_if : {A E : Type 0} (r : Result A E) (lost : Type 0) → lost → OnErr r lost
+lost_if (Ok a) lost h = tt
+lost_if (Err e) lost h = h

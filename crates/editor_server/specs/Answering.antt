@@ -13,7 +13,7 @@ use Rattle.editor_json.specs.Received.{IsParsed}
 use Rattle.editor_json.specs.Requests.{said_by, said_in}
 use Rattle.editor_json.specs.Sent.{error_data, published_data, reply_data}
 use Rattle.editor_server.specs.Model.{LosesAll}
-use Rattle.editor_server.specs.Steps.{IsRefusal, Reacts}
+use Rattle.editor_server.specs.Steps.{Fails, IsRefusal, Reacts}
 use Rattle.editor_server.specs.declared.reaction.Reaction.{Reaction}
 use Rattle.editor_server.specs.declared.reaction.Reaction.TheVariants as reactions
 use Rattle.editor_server.specs.declared.sent.Sent.{Sent}
@@ -43,15 +43,30 @@ pub record LosesTexts (old new : Server) : Type 0 where
 abbrev pub IsUnread : (old new : Server) (done : Sent) → Type 0
 IsUnread old new done = LosesTexts old new × ((reaction : Reaction) × IsRefusal None ParseError reaction × IsSent reaction done)
 
-module _ (knows : List ℕ → Analysis → Type 0) (mentioned : List ℕ → Analysis → List Mention → Type 0) (formats : List ℕ → List ℕ → Type 0) (names : List ℕ → Type 0) (linked : Option (List ℕ) → List ℕ → Analysis → List FileLink → Type 0) where
+module _ (knows : List ℕ → Analysis → Type 0) (mentioned : List ℕ → Analysis → List Mention → Type 0) (formats : List ℕ → List ℕ → Type 0) (unformatted names : List ℕ → Type 0) (linked : Option (List ℕ) → List ℕ → Analysis → List FileLink → Type 0) where
   -- the server reacts to the message that a value is, and what it does is sent
   abbrev pub Handles : (d : Data) (old new : Server) (done : Sent) → Type 0
-  Handles d old new done = (message : Message) × (reaction : Reaction) × (said_by message ≡ said_in d) × Reacts knows mentioned formats names linked message old new reaction × IsSent reaction done
+  Handles d old new done = (message : Message) × (reaction : Reaction) × (said_by message ≡ said_in d) × Reacts knows mentioned formats unformatted names linked message old new reaction × IsSent reaction done
 
   -- a body is the value of a message, or no JSON
   abbrev pub HandlesParsed : Option Value → (old new : Server) (done : Sent) → Type 0
   HandlesParsed (Some value) old new done = Handles (view value) old new done
   HandlesParsed None old new done = IsUnread old new done
+
+  -- Memory ran out at the message that a value is: no text is known, since the message couldn't be made; or it failed; or what the server did isn't sent.
+  pub data Unanswered (d : Data) (old new : Server) : Type 0 where
+    lost : LosesTexts old new → Unanswered d old new
+    failed : (message : Message) → said_by message ≡ said_in d → Fails message old new → Unanswered d old new
+    unsent : (message : Message) (reaction : Reaction) → said_by message ≡ said_in d → Reacts knows mentioned formats unformatted names linked message old new reaction → Unanswered d old new
+
+  abbrev pub UnansweredParsed : Option Value → (old new : Server) → Type 0
+  UnansweredParsed (Some value) old new = Unanswered (view value) old new
+  UnansweredParsed None old new = LosesTexts old new
+
+  -- memory ran out at a body, before it was known or at its message
+  pub data FailsAt (body : List ℕ) (old new : Server) : Type 0 where
+    unparsed : LosesTexts old new → FailsAt body old new
+    parsed : (value : Option Value) → IsParsed body value → UnansweredParsed value old new → FailsAt body old new
 
   abbrev pub Answered : (body : List ℕ) (old new : Server) (done : Sent) → Type 0
   Answered body old new done = (value : Option Value) × IsParsed body value × HandlesParsed value old new done

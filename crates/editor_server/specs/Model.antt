@@ -109,10 +109,10 @@ reason_of ShutDown codes.MethodNotFound = codes.InvalidRequest
 reason_of ShutDown codes.InvalidParams = codes.InvalidRequest
 reason_of stage code = code
 
-module _ (mentioned : List ℕ → Analysis → List Mention → Type 0) (formats : List ℕ → List ℕ → Type 0) (names : List ℕ → Type 0) (linked : Option (List ℕ) → List ℕ → Analysis → List FileLink → Type 0) where
+module _ (knows : List ℕ → Analysis → Type 0) (mentioned : List ℕ → Analysis → List Mention → Type 0) (formats : List ℕ → List ℕ → Type 0) (unformatted names : List ℕ → Type 0) (linked : Option (List ℕ) → List ℕ → Analysis → List FileLink → Type 0) where
   -- the answer about the document that is at an address
   abbrev pub IsAnswerAbout : Encoding → (uri : List ℕ) → Query → Option Document → Answer → Type 0
-  IsAnswerAbout encoding uri query (Some d) answer = IsAnswer mentioned encoding uri (string_bytes d.text) d.analysis formats names linked query answer
+  IsAnswerAbout encoding uri query (Some d) answer = IsAnswer knows mentioned encoding uri (string_bytes d.text) d.analysis formats unformatted names linked query answer
   IsAnswerAbout encoding uri query None answer = ⊥
 
   -- the answer to a request
@@ -122,9 +122,9 @@ module _ (mentioned : List ℕ → Analysis → List Mention → Type 0) (format
   Answers Working encoding documents (requests.About uri query) answer = IsAnswerAbout encoding uri.now query (get_by_text documents.list uri.now) answer
   Answers stage encoding documents other answer = ⊥
 
-module _ (mentioned : List ℕ → Analysis → List Mention → Type 0) (names : List ℕ → Type 0) where
+module _ (knows : List ℕ → Analysis → Type 0) (mentioned : List ℕ → Analysis → List Mention → Type 0) (names : List ℕ → Type 0) where
   abbrev pub IsRefusedAbout : Encoding → (uri : List ℕ) → Query → Option Document → (has_lost : Bool) → ErrorCode → Type 0
-  IsRefusedAbout encoding uri query (Some d) has_lost code = IsRefused mentioned encoding uri (string_bytes d.text) d.analysis names query code
+  IsRefusedAbout encoding uri query (Some d) has_lost code = IsRefused knows mentioned encoding uri (string_bytes d.text) d.analysis names query code
   IsRefusedAbout encoding uri query None has_lost code = code ≡ absence has_lost
 
   -- a request is refused for this reason

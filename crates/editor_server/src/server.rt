@@ -4,7 +4,7 @@ ghost use Rattle.std.specs.BTreeMap.{IsEmpty, get_by_text};
 ghost use Rattle.editor_answers.specs.Answers.{FailsFor};
 ghost use Rattle.editor_messages.specs.declared.error_code.ErrorCode.TheVariants.{InvalidRequest};
 ghost use Rattle.serde_json.specs.View.{view};
-ghost use Rattle.editor_server.specs.Answering.{Answered, Handles, HandlesParsed, IsUnread, LosesTexts};
+ghost use Rattle.editor_server.specs.Answering.{Answered, FailsAt, Handles, HandlesParsed, IsUnread, LosesTexts, Unanswered, UnansweredParsed};
 ghost use Rattle.editor_server.specs.Changed.{AreKnown};
 ghost use Rattle.editor_server.specs.Model.{Answers, Changes, IsAnswerAbout, IsRefusedAbout, LeavesOnError, Loses, Notes, Publishes, Refuses, Replies, Stores, TellsOf, absence, reason_of};
 ghost use Rattle.editor_server.specs.declared.reaction.Stage.TheVariants.{New, Working};
@@ -56,8 +56,10 @@ impl Server {
         body: &[u8],
     ) -> Result<Sent, AllocError>
         requires { AreKnown L.knows self.old.documents.list }
-        ensures ok { IfOk result (Answered L.knows L.mentioned L.formats L.names L.linked body.now
-            self.old self.new) }
+        ensures ok { IfOk result (Answered L.knows L.mentioned L.formats L.unformatted L.names
+            L.linked body.now self.old self.new) }
+        ensures failed { OnErr result (FailsAt L.knows L.mentioned L.formats L.unformatted
+            L.names L.linked body.now self.old self.new) }
         ensures known { AreKnown L.knows self.new.documents.list }
     {
         match parsed(alloc, body) {
@@ -78,8 +80,10 @@ impl Server {
         value: &Option<Value>,
     ) -> Result<Sent, AllocError>
         requires { AreKnown L.knows self.old.documents.list }
-        ensures ok { IfOk result (HandlesParsed L.knows L.mentioned L.formats L.names L.linked
-            value.now self.old self.new) }
+        ensures ok { IfOk result (HandlesParsed L.knows L.mentioned L.formats L.unformatted
+            L.names L.linked value.now self.old self.new) }
+        ensures failed { OnErr result (UnansweredParsed L.knows L.mentioned L.formats
+            L.unformatted L.names L.linked value.now self.old self.new) }
         ensures known { AreKnown L.knows self.new.documents.list }
     {
         match value {
@@ -97,8 +101,10 @@ impl Server {
         value: &Value,
     ) -> Result<Sent, AllocError>
         requires { AreKnown L.knows self.old.documents.list }
-        ensures ok { IfOk result (Handles L.knows L.mentioned L.formats L.names L.linked
-            (view value.now) self.old self.new) }
+        ensures ok { IfOk result (Handles L.knows L.mentioned L.formats L.unformatted L.names
+            L.linked (view value.now) self.old self.new) }
+        ensures failed { OnErr result (Unanswered L.knows L.mentioned L.formats L.unformatted
+            L.names L.linked (view value.now) self.old self.new) }
         ensures known { AreKnown L.knows self.new.documents.list }
     {
         match message_of(alloc, value) {
@@ -137,8 +143,8 @@ impl Server {
         message: Message<'a>,
     ) -> Result<Reaction<'a>, AllocError>
         requires { AreKnown L.knows self.old.documents.list }
-        ensures ok { IfOk result (Reacts L.knows L.mentioned L.formats L.names L.linked
-            message.entry self.old self.new) }
+        ensures ok { IfOk result (Reacts L.knows L.mentioned L.formats L.unformatted L.names
+            L.linked message.entry self.old self.new) }
         ensures failed { OnErr result (Fails message.entry self.old self.new) }
         ensures known { AreKnown L.knows self.new.documents.list }
     {
@@ -175,9 +181,9 @@ impl Server {
         request: Request<'a>,
     ) -> Result<Reaction<'a>, AllocError>
         ensures ok { IfOk result (Replies id.entry
-            (Answers L.mentioned L.formats L.names L.linked self.old.stage self.old.encoding
-            self.old.documents request.entry)
-            (Refuses L.mentioned L.names self.old.stage self.old.encoding
+            (Answers L.knows L.mentioned L.formats L.unformatted L.names L.linked
+            self.old.stage self.old.encoding self.old.documents request.entry)
+            (Refuses L.knows L.mentioned L.names self.old.stage self.old.encoding
             self.old.documents request.entry)) }
         ensures after { AfterAll request.entry self.old self.new }
     {
@@ -192,9 +198,9 @@ impl Server {
         language: &L,
         request: Request<'_>,
     ) -> Result<Answer, Failure>
-        ensures ok { IfOk result (Answers L.mentioned L.formats L.names L.linked self.old.stage
-            self.old.encoding self.old.documents request.entry) }
-        ensures failed { IfErr result (FailsFor (Refuses L.mentioned L.names self.old.stage
+        ensures ok { IfOk result (Answers L.knows L.mentioned L.formats L.unformatted L.names
+            L.linked self.old.stage self.old.encoding self.old.documents request.entry) }
+        ensures failed { IfErr result (FailsFor (Refuses L.knows L.mentioned L.names self.old.stage
             self.old.encoding self.old.documents request.entry)) }
         ensures after { AfterAll request.entry self.old self.new }
     {
@@ -208,9 +214,9 @@ impl Server {
     /// Returns the answer to a request, before the work.
     fn begin<L: Language>(&mut self, _language: &L, request: Request<'_>) -> Result<Answer, Failure>
         requires { self.old.stage ≡ New }
-        ensures ok { IfOk result (Answers L.mentioned L.formats L.names L.linked self.old.stage
-            self.old.encoding self.old.documents request.entry) }
-        ensures failed { IfErr result (FailsFor (Refuses L.mentioned L.names self.old.stage
+        ensures ok { IfOk result (Answers L.knows L.mentioned L.formats L.unformatted L.names
+            L.linked self.old.stage self.old.encoding self.old.documents request.entry) }
+        ensures failed { IfErr result (FailsFor (Refuses L.knows L.mentioned L.names self.old.stage
             self.old.encoding self.old.documents request.entry)) }
         ensures after { AfterAll request.entry self.old self.new }
     {
@@ -235,9 +241,9 @@ impl Server {
         request: Request<'_>,
     ) -> Result<Answer, Failure>
         requires { self.old.stage ≡ Working }
-        ensures ok { IfOk result (Answers L.mentioned L.formats L.names L.linked self.old.stage
-            self.old.encoding self.old.documents request.entry) }
-        ensures failed { IfErr result (FailsFor (Refuses L.mentioned L.names self.old.stage
+        ensures ok { IfOk result (Answers L.knows L.mentioned L.formats L.unformatted L.names
+            L.linked self.old.stage self.old.encoding self.old.documents request.entry) }
+        ensures failed { IfErr result (FailsFor (Refuses L.knows L.mentioned L.names self.old.stage
             self.old.encoding self.old.documents request.entry)) }
         ensures after { AfterAll request.entry self.old self.new }
     {
@@ -259,10 +265,10 @@ impl Server {
         uri: &str,
         query: Query<'_>,
     ) -> Result<Answer, Failure>
-        ensures ok { IfOk result (IsAnswerAbout L.mentioned L.formats L.names L.linked
-            self.now.encoding uri.now query.entry
+        ensures ok { IfOk result (IsAnswerAbout L.knows L.mentioned L.formats L.unformatted
+            L.names L.linked self.now.encoding uri.now query.entry
             (get_by_text self.now.documents.list uri.now)) }
-        ensures failed { IfErr result (FailsFor (IsRefusedAbout L.mentioned L.names
+        ensures failed { IfErr result (FailsFor (IsRefusedAbout L.knows L.mentioned L.names
             self.now.encoding uri.now query.entry
             (get_by_text self.now.documents.list uri.now) self.now.documents.has_lost)) }
     {

@@ -4,6 +4,7 @@ use Rattle.std.specs.List.{sum_by}
 use Rattle.std.specs.Str.{IsCharBoundary}
 use Rattle.justfile_lines.specs.declared.encoding.Encoding.{Encoding}
 use Rattle.justfile_lines.specs.declared.encoding.Encoding.TheVariants.{Utf8, Utf16}
+use Rattle.justfile_lines.specs.declared.position.Place.{Place}
 use Rattle.justfile_lines.specs.declared.position.Position.{Position}
 
 -- how many line feeds a text has
@@ -47,3 +48,9 @@ pub record IsOffset (encoding : Encoding) (text : List ℕ) (position : Position
   pub boundary : IsCharBoundary text offset
   pub in_line : position.line ≤ feeds text → IsLastUpTo encoding text position.line position.column offset
   pub after : feeds text < position.line → offset ≡ length text
+
+-- The place is that of an offset in the text.
+pub record IsPlace (encoding : Encoding) (text : List ℕ) (place : Place) : Type 0 where
+  pub within : place.offset ≤ length text
+  pub line_is : place.position.line ≡ line_at text place.offset
+  pub column_is : place.position.column ≡ column_at encoding text place.offset

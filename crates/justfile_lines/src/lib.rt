@@ -9,4 +9,4 @@ mod walk;
 
 pub use encoding::Encoding;
 pub use lines::Lines;
-pub use position::Position;
+pub use position::{Place, Position};

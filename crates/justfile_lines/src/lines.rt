@@ -1,11 +1,11 @@
 //! The lines of a text.
 ghost use Rattle.std.specs.Prelude.{◌≡◌, ℕ, ◌+◌, ◌-◌, ◌<◌, ◌≤◌, IfOk, length};
 ghost use Rattle.std.specs.Str.{IsCharBoundary, IsUtf8};
-ghost use Rattle.justfile_lines.specs.Positions.{IsOffset, column_at, feeds, line_at};
+ghost use Rattle.justfile_lines.specs.Positions.{IsOffset, IsPlace, column_at, feeds, line_at};
 ghost use Rattle.justfile_lines.specs.Starts.{AreStarts, IsStart};
 
 use crate::encoding::Encoding;
-use crate::position::Position;
+use crate::position::{Place, Position};
 use crate::walk::{last_up_to, width};
 use std::alloc::{AllocError, Global};
 
@@ -94,6 +94,67 @@ impl<'a> Lines<'a> {
         let start = self.start(position.line);
         let end = self.line_end(position.line);
         last_up_to(encoding, text, start, end, position.column)
+    }
+
+    /// Returns the place of an offset. If it follows a known place in a line, the text between the two
+    /// is gone along, and otherwise the line from where it begins.
+    pub fn place(&self, encoding: Encoding, known: Place, offset: usize) -> Place
+        requires within { offset ≤ length self.now.text.now }
+        requires place { IsPlace encoding self.now.text.now known }
+        ensures is { IsPlace encoding self.now.text.now result }
+        ensures offset { result.offset ≡ offset }
+        ensures back { IsCharBoundary self.now.text.now offset
+            → IsOffset encoding self.now.text.now result.position offset }
+    {
+        if known.offset <= offset && self.line(offset) == known.position.line {
+            let line = known.position.line;
+            let column = self.column_after(encoding, known, offset);
+            let position = Position { line, column };
+            Place { offset, position }
+        } else {
+            let position = self.position(encoding, offset);
+            Place { offset, position }
+        }
+    }
+
+    /// Returns the column of an offset that follows a known place in its line.
+    fn column_after(&self, encoding: Encoding, known: Place, offset: usize) -> usize
+        requires within { offset ≤ length self.now.text.now }
+        requires place { IsPlace encoding self.now.text.now known }
+        requires order { known.offset ≤ offset }
+        requires line { line_at self.now.text.now offset ≡ known.position.line }
+        ensures { result ≡ column_at encoding self.now.text.now offset }
+    {
+        let (before, _) = self.text.as_bytes().split_at(offset);
+        let (_, between) = before.split_at(known.offset);
+        known.position.column + width(encoding, between)
+    }
+
+    /// Returns the place of the offset of a position. If it follows a known place in a line, the text
+    /// between the two is gone along, and otherwise the line from where it begins.
+    pub fn place_of(&self, encoding: Encoding, known: Place, position: Position) -> Place
+        requires place { IsPlace encoding self.now.text.now known }
+        requires boundary { IsCharBoundary self.now.text.now known.offset }
+        ensures is { IsPlace encoding self.now.text.now result }
+        ensures offset { IsOffset encoding self.now.text.now position result.offset }
+    {
+        let offset = self.offset_after(encoding, known, position);
+        self.place(encoding, known, offset)
+    }
+
+    /// Returns the offset of a position, by a known place.
+    fn offset_after(&self, encoding: Encoding, known: Place, position: Position) -> usize
+        requires place { IsPlace encoding self.now.text.now known }
+        requires boundary { IsCharBoundary self.now.text.now known.offset }
+        ensures { IsOffset encoding self.now.text.now position result }
+    {
+        if position.line != known.position.line || position.column < known.position.column {
+            return self.offset(encoding, position);
+        }
+        let text = self.text;
+        let end = self.line_end(position.line);
+        let column = position.column - known.position.column;
+        last_up_to(encoding, text, known.offset, end, column)
     }
 
     /// Returns where a line begins.

@@ -2,3 +2,4 @@ pub mod Firsts
 pub mod Given
 pub mod ItemMentions
 pub mod Linked
+pub mod Unformatted

@@ -1,5 +1,6 @@
 //! Justfiles as a language.
-ghost use Rattle.justfile_canonical.specs.Formatting.{IsFormatted};
+ghost use Rattle.std.specs.Prelude.{◌⊎◌};
+ghost use Rattle.justfile_canonical.specs.Formatting.{HasNone, IsFormatted, LacksNumbers};
 ghost use Rattle.justfile_mentions.specs.Names.{IsName};
 ghost use Rattle.justfile_analysis.specs.Knowledge.{Knows};
 ghost use Rattle.justfile_server.specs.Links.{IsPathOf, Links};
@@ -30,6 +31,8 @@ pub(crate) struct Justfiles<'a, F> {
 impl<F: Folders> Language for Justfiles<'_, F> {
     ghost formats = { IsFormatted };
 
+    ghost unformatted = { λ text. HasNone text ⊎ LacksNumbers text };
+
     ghost knows = { Knows };
 
     ghost mentioned = { Mentioned };
@@ -53,11 +56,14 @@ impl<F: Folders> Language for Justfiles<'_, F> {
         analysis_after(alloc, old_text, old, text)
     }
 
+    #[tactic(auto, using(crate::proofs::Unformatted::no_justfile, crate::proofs::Unformatted::not_printable, crate::proofs::Unformatted::no_numbers))]
     fn formatted(&self, alloc: Global, text: &str) -> Result<Option<String>, AllocError> {
         match format_text(alloc, "justfile", text) {
             Ok(formatted) => Ok(Some(formatted)),
             Err(FormatFault::Memory) => Err(AllocError),
-            Err(_) => Ok(None),
+            Err(FormatFault::Rejected(_)) => Ok(None),
+            Err(FormatFault::NotPrintable) => Ok(None),
+            Err(FormatFault::Numbers) => Ok(None),
         }
     }
 

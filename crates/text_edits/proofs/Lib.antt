@@ -1,2 +1,3 @@
-pub mod Ends
-pub mod Shortest
+pub mod Edits
+pub mod Joined
+pub mod Steps

@@ -1,1 +1,3 @@
+pub mod Edited
+pub mod Lines
 pub mod Replaced

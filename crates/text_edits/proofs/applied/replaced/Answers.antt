@@ -1,6 +1,6 @@
 use Rattle.std.proofs.Common.{List, ℕ, subst}
 use Rattle.justfile_lines.specs.Positions.{IsOffset}
-use Rattle.text_edits.proofs.Ends.{joined}
+use Rattle.text_edits.proofs.Joined.{joined}
 use Rattle.text_edits.proofs.applied.replaced.Goals as goal
 
 pub returns : goal.returns
