@@ -3,8 +3,8 @@
 #
 # PREFIX is ~/.local if none is given. The programs are justfmt and justfiles, and with --server justfile_server, too.
 # They are compiled as proved programs are (build_unproved.sh), from the sources that `rt ci` proves: from a copy in
-# which commit.rt has the commit, which --version writes. Each takes a minute or two of a processor: half of that the
-# kit takes for the code of std and of the crates, half LLVM.
+# which commit.rt has the commit, which --version writes. What they share is read and compiled once, and that takes
+# nearly all of the time: half of it the kit, for the code of std and of the crates, half LLVM.
 set -eu
 programs='justfmt justfiles'
 if [ "${1-}" = --server ]; then
@@ -27,22 +27,17 @@ tar -C "$top" --exclude=out -cf - crates crates.txt tools | tar -C "$work/copy" 
 sed -i "s/^pub const COMMIT: .*/pub const COMMIT: \&str = \"$commit\";/" "$work"/copy/crates/*/src/commit.rt
 
 echo "Compiling $programs of commit $commit with $(rt version), and proving nothing again."
-echo "Each takes a minute or two of a processor, and 1 GB of memory. They go to $prefix/bin."
-running=
-for program in $programs; do
-    { "$work/copy/tools/build_unproved.sh" "$program" "$work/$program" && echo "built $program"; } &
-    if [ "$(nproc)" -gt 2 ]; then running="$running $!"; else wait $!; fi
-done
-for one in $running; do wait "$one"; done
+echo "That takes two to four minutes of a processor, and 1 GB of memory. They go to $prefix/bin."
+"$work/copy/tools/build_unproved.sh" "$work/built" $programs
 
-[ "$(printf 'a:=b' | "$work/justfmt")" = 'a := b' ] || { echo 'install.sh: justfmt does not format' >&2; exit 1; }
+[ "$(printf 'a:=b' | "$work/built/justfmt")" = 'a := b' ] || { echo 'install.sh: justfmt does not format' >&2; exit 1; }
 for program in $programs; do
-    [ "$program" = justfmt ] || case $("$work/$program" --version </dev/null) in
+    [ "$program" = justfmt ] || case $("$work/built/$program" --version </dev/null) in
     "$program, commit $commit, "*) ;;
     *) echo "install.sh: $program does not tell its commit" >&2; exit 1 ;;
     esac
     mkdir -p "$prefix/bin"
-    install -m 755 "$work/$program" "$prefix/bin/$program"
+    install -m 755 "$work/built/$program" "$prefix/bin/$program"
     echo "installed $prefix/bin/$program"
 done
 times >"$work/times"

@@ -13,7 +13,7 @@ if [ -z "${LIBRARY:-}" ] || [ -z "${WEB:-}" ]; then
     "$top/tools/module.sh" justfile_c "$work/module.ll" --test
     export MODULE="$work/module.ll"
 fi
-[ -n "${JUSTFMT:-}" ] || { "$top/tools/build_unproved.sh" justfmt "$work/justfmt"; JUSTFMT=$work/justfmt; }
+[ -n "${JUSTFMT:-}" ] || { "$top/tools/build_unproved.sh" "$work" justfmt; JUSTFMT=$work/justfmt; }
 [ -n "${LIBRARY:-}" ] || { "$top/tools/library.sh" "$work/library"; LIBRARY=$work/library; }
 [ -n "${WEB:-}" ] || { "$top/tools/web.sh" "$work/web"; WEB=$work/web; }
 mkdir "$work/tried"

@@ -38,7 +38,7 @@ abbrev pub AreInFormat : List SignificantToken → Type 0
 AreInFormat [] = Unit {0}
 AreInFormat (t ∷ ts) = (IsKind kinds.FormatStringStart t → InFormat (kind_of t.tok.lexeme) ts) × AreInFormat ts
 
-are_inside : (s : Around) (c : Bool) (ts : List SignificantToken) → Sound s c ts → AreInFormat ts
+pub are_inside : (s : Around) (c : Bool) (ts : List SignificantToken) → Sound s c ts → AreInFormat ts
 are_inside s c [] h = tt
 are_inside s c (t ∷ ts) h = (
   λ kind. record { open_around = s; comment = false; sound = past s t ts kinds.FormatStringStart kind h.2 },
