@@ -1,0 +1,4 @@
+pub mod CertificateLaws
+pub mod FlagLemmas
+pub mod GraphLemmas
+pub mod SearchLemmas

@@ -1,0 +1,4 @@
+pub mod Certificate
+pub mod Circles
+pub mod Graph
+pub mod Passed

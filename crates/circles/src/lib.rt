@@ -1,0 +1,20 @@
+//! Which edges of a directed graph are part of a circle, in time that grows with the graph.
+//!
+//! A search that has no contract makes two forests. If they pass a test, they show which edges are
+//! part of a circle; otherwise a plain search answers. So each answer is right, whatever the first
+//! search does, and only the time depends on it.
+#![tactic(auto)]
+
+mod certificate;
+mod circles;
+mod edge;
+mod forests;
+mod place;
+mod plain;
+mod search;
+
+pub use circles::in_circles;
+pub use edge::Edge;
+
+#[cfg(test)]
+mod tests;
