@@ -1,3 +1,5 @@
+pub mod Items
+pub mod Keys
 pub mod Mapped
 pub mod Steps
 pub mod Told

@@ -1,19 +1,19 @@
 -- What was found, by the tokens.
-use Rattle.std.proofs.Common.{◌≡◌, ℕ, Bool, false, List, [], ◌∷◌, ◌++◌, Bor, None, Some, length, map, nat_lt, refl, subst, sym}
+use Rattle.std.proofs.Common.{◌≡◌, ℕ, Bool, List, [], ◌∷◌, ◌++◌, Bor, Option, None, Some, Result, Ok, Err, IfNone, IfOk, IfSome, length, map, nat_lt, subst, sym}
 use Rattle.std.specs.List.{slice_range}
 use Rattle.justfile_token.specs.declared.compile_error.CompileError.{CompileError}
 use Rattle.justfile_token.specs.declared.token.Token.{Token}
 use Rattle.justfile_model.specs.Lexing.LexResult.{IsLexicalError}
 use Rattle.justfile_model.specs.Lexing.Lexed.{Lexed}
 use Rattle.justfile_model.specs.Lexing.Tok.{tok_of}
-use Rattle.justfile_completion.specs.Completions.{AreAfter, AreCompletions, AreFound, HasFound, candidates_after, some_of, told_of}
-use Rattle.justfile_completion.specs.Cursor.{HasNoTokens, IsFront, closed, none, open_still, word_end, word_start}
+use Rattle.justfile_completion.specs.Completions.{AreAfter, AreAt, AreCompletions, AreFound, AreInItem, HasFound, all_ends, by_item, candidates_after, some_of, told_of}
+use Rattle.justfile_completion.specs.Cursor.{AreTokens, HasNoTokens, IsFront, IsLastItem, closed, none, open_still, word_end, word_start}
 use Rattle.justfile_completion.specs.Offers.{Told, told}
 use Rattle.justfile_completion.specs.Order.{AreInOrder}
 use Rattle.justfile_completion.specs.Words.{tokens_before}
 use Rattle.justfile_completion.specs.declared.found.Completion.{Completion}
 use Rattle.justfile_completion.specs.declared.found.Completions.{Completions}
-use Rattle.justfile_completion.specs.declared.found.TheConstants.{ENDS, LIMIT}
+use Rattle.justfile_completion.specs.declared.found.TheConstants.{LIMIT}
 use Rattle.justfile_completion.specs.declared.offer.Offer.{Offer}
 
 pub are_found : (candidates : List Told) (typed : List ℕ) (offers ordered : List Offer) (found : List Completion) (is_incomplete : Bool) → map told offers ≡ candidates → AreInOrder offers ordered
@@ -35,20 +35,36 @@ texts ends = map (λ (end : Bor (List ℕ)). end.now) ends
 pub after_closed : (names : List Offer) (front typed : List ℕ) (ends others : List (Bor (List ℕ))) (end : Bor (List ℕ)) (found : List Completion) (is_incomplete : Bool) → ends ≡ end ∷ others → HasFound names (front ++ end.now) (length front) typed found is_incomplete
     → AreAfter names front typed (texts ends) found is_incomplete
 after_closed names front typed ends others end found is_incomplete e has =
-    let made : AreAfter names front typed (texts (end ∷ others)) found is_incomplete = record { tokens = Some has.tokens; are_tokens = closed end.now has.tokens has.lexed; are = has.are } in
+    let made : AreAfter names front typed (texts (end ∷ others)) found is_incomplete = record { tokens = has.tokens; are_tokens = closed end.now has.tokens has.lexed; are = has.are } in
     subst (λ (es : List (Bor (List ℕ))). AreAfter names front typed (texts es) found is_incomplete) (sym e) made
 
-pub after_open : (names : List Offer) (front typed : List ℕ) (ends others : List (Bor (List ℕ))) (end : Bor (List ℕ)) (found : List Completion) (is_incomplete : Bool) → ends ≡ end ∷ others → HasNoTokens (front ++ end.now)
+after_open : (names : List Offer) (front typed : List ℕ) (ends others : List (Bor (List ℕ))) (end : Bor (List ℕ)) (found : List Completion) (is_incomplete : Bool) → ends ≡ end ∷ others → HasNoTokens (front ++ end.now)
     → AreAfter names front typed (texts others) found is_incomplete → AreAfter names front typed (texts ends) found is_incomplete
 after_open names front typed ends others end found is_incomplete e refused later =
     let made : AreAfter names front typed (texts (end ∷ others)) found is_incomplete = record { tokens = later.tokens; are_tokens = open_still end.now refused later.are_tokens; are = later.are } in
     subst (λ (es : List (Bor (List ℕ))). AreAfter names front typed (texts es) found is_incomplete) (sym e) made
 
-pub after_all : (names : List Offer) (front typed : List ℕ) (ends : List (Bor (List ℕ))) (found : List Completion) → ends ≡ [] → found ≡ [] → AreAfter names front typed (texts ends) found false
-after_all names front typed ends found e none_found =
-    let made : AreAfter names front typed (texts []) found false = record { tokens = None; are_tokens = none; are = (none_found, refl) } in
-    subst (λ (es : List (Bor (List ℕ))). AreAfter names front typed (texts es) found false) (sym e) made
+pub later_closed : {A E : Type 0} (items : A → List Completion) (more : A → Bool) (r : Result (Option A) E) (names : List Offer) (front typed : List ℕ) (ends others : List (Bor (List ℕ))) (end : Bor (List ℕ)) → ends ≡ end ∷ others → HasNoTokens (front ++ end.now)
+    → IfOk r (λ found. IfSome found (λ a. AreAfter names front typed (texts others) (items a) (more a)))
+    → IfOk r (λ found. IfSome found (λ a. AreAfter names front typed (texts ends) (items a) (more a)))
+later_closed items more (Ok (Some a)) names front typed ends others end e refused h = after_open names front typed ends others end (items a) (more a) e refused h
+later_closed items more (Ok None) names front typed ends others end e refused h = tt
+later_closed items more (Err x) names front typed ends others end e refused h = tt
+
+pub never_closed : {A E : Type 0} (r : Result (Option A) E) (front : List ℕ) (ends others : List (Bor (List ℕ))) (end : Bor (List ℕ)) → ends ≡ end ∷ others → HasNoTokens (front ++ end.now)
+    → IfOk r (λ found. IfNone found (AreTokens front (texts others) None)) → IfOk r (λ found. IfNone found (AreTokens front (texts ends) None))
+never_closed (Ok (Some a)) front ends others end e refused h = tt
+never_closed (Ok None) front ends others end e refused h = subst (λ (es : List (Bor (List ℕ))). AreTokens front (texts es) None) (sym e) (open_still end.now refused h)
+never_closed (Err x) front ends others end e refused h = tt
+
+pub no_end : (front : List ℕ) (ends : List (Bor (List ℕ))) → ends ≡ [] → AreTokens front (texts ends) None
+no_end front ends e = subst (λ (es : List (Bor (List ℕ))). AreTokens front (texts es) None) (sym e) none
+
+pub by_last : {A E : Type 0} (items : A → List Completion) (more : A → Bool) (r : Result A E) (names : List Offer) (front item typed : List ℕ) → AreTokens front all_ends None → IsLastItem front item
+    → IfOk r (λ a. AreInItem names item typed (items a) (more a)) → IfOk r (λ a. AreAt names front typed (items a) (more a))
+by_last items more (Ok a) names front item typed uncut_front last h = by_item uncut_front item last h
+by_last items more (Err e) names front item typed uncut_front last h = tt
 
 pub are_completions : (names : List Offer) (text : List ℕ) (cursor : ℕ) (made : Completions) (front : List ℕ) → made.start ≡ word_start text cursor → made.end ≡ word_end text cursor → IsFront text made.start front
-    → AreAfter names front (slice_range text made.start cursor) (map (λ end. end.now) ENDS) made.found.items made.is_incomplete → AreCompletions names text cursor made
+    → AreAt names front (slice_range text made.start cursor) made.found.items made.is_incomplete → AreCompletions names text cursor made
 are_completions names text cursor made front start end is_front are = record { start_is = start; end_is = end; front = front; is_front = is_front; are = are }

@@ -1,5 +1,5 @@
 -- What can be written at a place, not yet in order.
-use Rattle.std.specs.Prelude.{◌&&◌, ◌||◌, ◌++◌, ℕ, Bool, false, not, List, [], Option, None, Some, filter, map}
+use Rattle.std.specs.Prelude.{◌&&◌, ◌++◌, ℕ, Bool, false, not, List, [], Option, None, Some, filter, map}
 use Rattle.std.specs.List.{find, list_any, take_while}
 use Rattle.std.specs.Str.{bytes_eq}
 use Rattle.justfile_token.specs.Token.{lexeme_of}

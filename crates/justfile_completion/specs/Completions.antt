@@ -1,11 +1,11 @@
 -- What can be written at the cursor.
-use Rattle.std.specs.Prelude.{◌≡◌, ◌++◌, ℕ, Bool, false, List, [], Option, None, Some, cond, filter, length, map, nat_eq, nat_lt, string_bytes, take}
+use Rattle.std.specs.Prelude.{◌≡◌, ℕ, Bool, false, List, [], None, Some, cond, filter, length, map, nat_eq, nat_lt, string_bytes, take}
 use Rattle.std.specs.List.{slice_range, starts_with}
 use Rattle.justfile_token.specs.declared.token.Token.{Token}
 use Rattle.justfile_model.specs.Lexing.Lexed.{Lexed}
 use Rattle.justfile_model.specs.Lexing.Tok.{tok_of}
 use Rattle.justfile_completion.specs.Candidates.{candidates}
-use Rattle.justfile_completion.specs.Cursor.{AreTokens, IsFront, word_end, word_start}
+use Rattle.justfile_completion.specs.Cursor.{AreTokens, IsFront, IsLastItem, word_end, word_start}
 use Rattle.justfile_completion.specs.Offers.{Told, told}
 use Rattle.justfile_completion.specs.Order.{AreInOrder}
 use Rattle.justfile_completion.specs.Parameters.{parameters_seen}
@@ -41,12 +41,7 @@ pub record AreFound (candidates : List Told) (typed : List ℕ) (found : List Co
   pub are : map told_of found ≡ map told (some_of typed ordered)
   pub incomplete_is : is_incomplete ≡ nat_lt LIMIT (length ordered)
 
--- by the tokens of the text up to the cursor; without tokens there is nothing
-abbrev pub AreFoundIn : (names : List Offer) (cursor : ℕ) (typed : List ℕ) → Option (List Token) → (found : List Completion) (is_incomplete : Bool) → Type 0
-AreFoundIn names cursor typed None found is_incomplete = (found ≡ []) × (is_incomplete ≡ false)
-AreFoundIn names cursor typed (Some tokens) found is_incomplete = AreFound (candidates_after names cursor (tokens_before cursor tokens)) typed found is_incomplete
-
--- the same for a text that has tokens
+-- by the tokens of a text up to the cursor
 pub record HasFound (names : List Offer) (text : List ℕ) (cursor : ℕ) (typed : List ℕ) (found : List Completion) (is_incomplete : Bool) : Type 0 where
   pub tokens : List Token
   pub lexed : Lexed text (map tok_of tokens)
@@ -54,9 +49,23 @@ pub record HasFound (names : List Offer) (text : List ℕ) (cursor : ℕ) (typed
 
 -- what can be written after a text, where this is written already, by the first of these ends that closes the text
 pub record AreAfter (names : List Offer) (front typed : List ℕ) (ends : List (List ℕ)) (found : List Completion) (is_incomplete : Bool) : Type 0 where
-  pub tokens : Option (List Token)
-  pub are_tokens : AreTokens front ends tokens
-  pub are : AreFoundIn names (length front) typed tokens found is_incomplete
+  pub tokens : List Token
+  pub are_tokens : AreTokens front ends (Some tokens)
+  pub are : AreFound (candidates_after names (length front) (tokens_before (length front) tokens)) typed found is_incomplete
+
+-- the ends that are tried
+abbrev pub all_ends : List (List ℕ)
+all_ends = map (λ end. end.now) ENDS
+
+-- the same after the text of an item; without tokens there is nothing
+pub data AreInItem (names : List Offer) (item typed : List ℕ) (found : List Completion) (is_incomplete : Bool) : Type 0 where
+  cut_up : AreAfter names item typed all_ends found is_incomplete → AreInItem names item typed found is_incomplete
+  uncut : AreTokens item all_ends None → found ≡ [] → is_incomplete ≡ false → AreInItem names item typed found is_incomplete
+
+-- the same after a text, or, if it has no tokens, after the text of its last item alone
+pub data AreAt (names : List Offer) (front typed : List ℕ) (found : List Completion) (is_incomplete : Bool) : Type 0 where
+  by_text : AreAfter names front typed all_ends found is_incomplete → AreAt names front typed found is_incomplete
+  by_item : AreTokens front all_ends None → (item : List ℕ) → IsLastItem front item → AreInItem names item typed found is_incomplete → AreAt names front typed found is_incomplete
 
 -- What can be written at the cursor, in place of the word that it is in.
 pub record AreCompletions (names : List Offer) (text : List ℕ) (cursor : ℕ) (made : Completions) : Type 0 where
@@ -64,4 +73,4 @@ pub record AreCompletions (names : List Offer) (text : List ℕ) (cursor : ℕ) 
   pub end_is : made.end ≡ word_end text cursor
   pub front : List ℕ
   pub is_front : IsFront text made.start front
-  pub are : AreAfter names front (slice_range text made.start cursor) (map (λ end. end.now) ENDS) made.found.items made.is_incomplete
+  pub are : AreAt names front (slice_range text made.start cursor) made.found.items made.is_incomplete

@@ -1,5 +1,5 @@
 -- The text before the cursor.
-use Rattle.std.specs.Prelude.{◌≡◌, ◌+◌, ◌-◌, ◌++◌, ℕ, Bool, false, true, List, [], ◌∷◌, Option, None, Some, drop, map, min, length, take}
+use Rattle.std.specs.Prelude.{◌≡◌, ◌==◌, ◌&&◌, ◌||◌, ◌+◌, ◌-◌, ◌++◌, ℕ, Bool, false, true, cond, not, List, [], ◌∷◌, Option, None, Some, drop, map, take}
 use Rattle.std.specs.List.{prefix_len, suffix_len}
 use Rattle.std.specs.Str.{IsCharBoundary}
 use Rattle.justfile_vocabulary.specs.ByteClass.{class_of}
@@ -31,6 +31,24 @@ word_end text cursor = cursor + prefix_len is_name_byte (drop cursor text)
 pub data IsFront (text : List ℕ) (start : ℕ) (front : List ℕ) : Type 0 where
   cut : front ≡ take start text → IsFront text start front
   outside : (IsCharBoundary text start → ⊥) → front ≡ [] → IsFront text start front
+
+-- an item may begin here: at the end, or with what is neither a blank nor a part of a line end
+abbrev pub begins_item : List ℕ → Bool
+begins_item [] = true
+begins_item (b ∷ text) = not (b == 9 || b == 10 || b == 13 || b == 32)
+
+-- what stands after the last line feed after which an item may begin, or what stood before if there is none
+abbrev pub item_after : (before text : List ℕ) → List ℕ
+item_after before [] = before
+item_after before (b ∷ text) = cond (b == 10 && begins_item text) (item_after text text) (item_after before text)
+
+abbrev pub last_item : List ℕ → List ℕ
+last_item text = item_after text text
+
+-- the text of the last item, and nothing if that begins inside of a character
+pub data IsLastItem (text item : List ℕ) : Type 0 where
+  from : item ≡ last_item text → IsLastItem text item
+  in_character : (start : ℕ) → drop start text ≡ last_item text → (IsCharBoundary text start → ⊥) → item ≡ [] → IsLastItem text item
 
 -- the text has no tokens
 pub record HasNoTokens (text : List ℕ) : Type 0 where

@@ -1,11 +1,10 @@
 -- Offers in the order of their names.
-use Rattle.std.specs.Prelude.{◌≡◌, ◌≤◌, ◌<◌, ℕ, Bool, List, filter, length, map, nat_eq, take, IsPermutation}
+use Rattle.std.specs.Prelude.{◌≡◌, ℕ, Bool, List, IsPermutation}
 use Rattle.std.specs.Cmp.Lexicographic.{slice_cmp}
-use Rattle.std.specs.List.{dedup, starts_with}
+use Rattle.std.specs.List.{dedup}
 use Rattle.std.specs.List.Sorted.{IsSortedByKey, IsStableByKey}
 use Rattle.std.specs.Ordering.{nat_cmp}
 use Rattle.std.specs.Str.{bytes_eq}
-use Rattle.justfile_completion.specs.Offers.{Told, told}
 use Rattle.justfile_completion.specs.declared.offer.Offer.{Offer}
 
 abbrev pub name_of : Offer → List ℕ

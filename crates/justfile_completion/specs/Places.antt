@@ -1,5 +1,5 @@
 -- What kind of place the cursor is at, by the words before it, the last one first.
-use Rattle.std.specs.Prelude.{◌&&◌, ◌||◌, ◌==◌, ℕ, Bool, true, false, not, List, [], ◌∷◌, Option, None, Some, codes, cond}
+use Rattle.std.specs.Prelude.{◌&&◌, ℕ, Bool, not, List, [], ◌∷◌, Option, Some, codes, cond}
 use Rattle.std.specs.List.{list_any}
 use Rattle.std.specs.Str.{bytes_eq}
 use Rattle.justfile_vocabulary.specs.AttributeKind.{kind_named}
@@ -13,6 +13,7 @@ use Rattle.justfile_completion.specs.Kinds.{is_assign, is_blocking, is_bracket, 
 use Rattle.justfile_completion.specs.Words.{from_opener, has, is_spelled, starts_line}
 use Rattle.justfile_completion.specs.declared.place.Place.{Place}
 use Rattle.justfile_completion.specs.declared.place.Place.TheVariants.{ArgKeys, Attributes, CacheKeys, Dependencies, Dependency, Else, Groups, If, LineStart, Nothing, Operand, Settings, Signals, Target, Truth}
+use Rattle.justfile_completion.specs.declared.tables.attributes.TheConstants.{EXPRESSION_KEYS}
 use Rattle.justfile_completion.specs.declared.tables.settings.TheConstants.{EXPRESSION_SETTINGS, SWITCHES}
 
 -- ---- expressions
@@ -92,11 +93,21 @@ later_argument_of (Some attributes.Continue) = Signals
 later_argument_of (Some attributes.Env) = Operand
 later_argument_of other = Nothing
 
+abbrev pub value_of_key : (key : List ℕ) → Place
+value_of_key key = cond (list_any (λ s. bytes_eq s.now key) EXPRESSION_KEYS) Operand Nothing
+
+-- after the words up to the `=` of a key
+abbrev pub after_equals : List Token → Place
+after_equals [] = Nothing
+after_equals (w ∷ []) = Nothing
+after_equals (w ∷ key ∷ ws) = value_of_key (lexeme_of key)
+
 -- in the arguments of the attribute with this name
 abbrev pub in_arguments : (name : List ℕ) → List Token → Place
 in_arguments name [] = Nothing
 in_arguments name (w ∷ ws) =
-    cond (is_comma w.kind) (later_argument_of (kind_named name)) (cond (is_parenthesis w.kind) (argument_of (kind_named name)) (in_expression (w ∷ ws)))
+    cond (is_comma w.kind) (later_argument_of (kind_named name))
+    (cond (is_parenthesis w.kind) (argument_of (kind_named name)) (cond (is_equals w.kind) (after_equals (w ∷ ws)) (in_expression (w ∷ ws))))
 
 -- between the brackets around attributes
 abbrev pub in_attributes : List Token → Place

@@ -1,7 +1,7 @@
 //! The word that the cursor is in.
-ghost use Rattle.std.specs.Prelude.{◌≡◌, ◌≤◌, length};
+ghost use Rattle.std.specs.Prelude.{◌≡◌, ◌==◌, ◌&&◌, ◌≤◌, cond, drop, length};
 ghost use Rattle.std.specs.List.{prefix_len, suffix_len};
-ghost use Rattle.justfile_completion.specs.Cursor.{IsFront, is_name_byte, word_end, word_start};
+ghost use Rattle.justfile_completion.specs.Cursor.{IsFront, IsLastItem, begins_item, is_name_byte, last_item, word_end, word_start};
 
 use justfile_vocabulary::ByteClass;
 use justfile_vocabulary::byte_class::byte_class;
@@ -56,6 +56,56 @@ pub(crate) fn front_of(text: &str, start: usize) -> &str
 {
     if text.is_char_boundary(start) {
         &text[..start]
+    } else {
+        ""
+    }
+}
+
+/// Whether an item may begin where these bytes stand: at the end, or with what is neither a blank nor a
+/// part of a line end.
+fn begins_item(rest: &[u8]) -> bool
+    ensures { result ≡ begins_item rest.now }
+{
+    match rest {
+        [] => true,
+        [byte, ..] => !matches!(*byte, b'\t' | b'\n' | b'\r' | b' '),
+    }
+}
+
+/// Returns where an item begins last, by where one did before a byte: after that, if it is a line feed
+/// after which one may begin.
+fn start_after(start: usize, byte: u8, next: usize, rest: &[u8]) -> usize
+    ensures { result ≡ cond (byte == 10 && begins_item rest.now) next start }
+{
+    if byte == b'\n' && begins_item(rest) {
+        next
+    } else {
+        start
+    }
+}
+
+/// Returns where the last item of a text begins.
+#[tactic(auto, using(crate::proofs::Items::item_step, crate::proofs::Items::item_end))]
+fn item_start(text: &[u8]) -> usize
+    ensures is { drop result text.now ≡ last_item text.now }
+    ensures within { result ≤ length text.now }
+{
+    let mut start = 0;
+    let mut next = 0;
+    for byte in text {
+        next += 1;
+        start = start_after(start, *byte, next, &text[next..]);
+    }
+    start
+}
+
+/// Returns the text of the last item, and nothing if that begins inside of a character.
+pub(crate) fn last_item(text: &str) -> &str
+    ensures { IsLastItem text.now result.now }
+{
+    let start = item_start(text.as_bytes());
+    if text.is_char_boundary(start) {
+        &text[start..]
     } else {
         ""
     }

@@ -1,11 +1,11 @@
 //! What can be written at the cursor.
-ghost use Rattle.std.specs.Prelude.{◌≡◌, ◌++◌, IfNone, IfOk, IfSome, filter, length, map, min, nat_lt};
-ghost use Rattle.justfile_completion.specs.Completions.{AreAfter, AreCompletions, AreFound, HasFound, begins_with, candidates_after, some_of, told_of};
-ghost use Rattle.justfile_completion.specs.Cursor.{HasNoTokens};
+ghost use Rattle.std.specs.Prelude.{◌≡◌, ◌++◌, IfNone, IfOk, IfSome, None, filter, length, map, min, nat_lt};
+ghost use Rattle.justfile_completion.specs.Completions.{AreAfter, AreAt, AreCompletions, AreFound, AreInItem, HasFound, begins_with, candidates_after, some_of, told_of};
+ghost use Rattle.justfile_completion.specs.Cursor.{AreTokens, HasNoTokens};
 ghost use Rattle.justfile_completion.specs.Offers.{told};
 
 use crate::candidates::candidates;
-use crate::cursor::{front_of, word_end, word_start};
+use crate::cursor::{front_of, last_item, word_end, word_start};
 use crate::offer::{Offer, OfferKind};
 use crate::order::put_in_order;
 use crate::parameters::parameters_seen;
@@ -18,9 +18,12 @@ use std::alloc::{AllocError, Global};
 /// How many texts are offered at most.
 pub const LIMIT: usize = 200;
 
-/// What closes that which may be open at the cursor: nothing, an interpolation in a body, or one in a
-/// format string.
-static ENDS: [&str; 6] = ["", "}}", "}}'", "}}\"", "}}'''", "}}\"\"\""];
+/// What closes that which may be open at the cursor: nothing; an interpolation in a body, with brackets
+/// that are open in it; a string, or an interpolation in a format string, in a body, too; or a command.
+static ENDS: [&str; 19] = [
+    "", "}}", ")}}", "))}}", ")))}}", "]}}", "])}}", "}}}", ")}}}", "))}}}", "})}}", "}}'", "}}\"",
+    "}}'''", "}}\"\"\"", "}}'}}", "}}\"}}", "`", "```",
+];
 
 /// A text that can be written at the cursor.
 #[derive(Drop)]
@@ -50,9 +53,10 @@ pub struct Completions {
 
 /// Returns what can be written at an offset of a text. These names are known of the text.
 ///
-/// The place is found by the tokens before the word that the cursor is in. In a string, a command and a
-/// comment nothing is offered, and nothing where the text before it can't be cut into tokens. Of more
-/// than `LIMIT` texts only those are offered that begin with what stands before the cursor.
+/// The place is found by the tokens before the word that the cursor is in: those of the text before it,
+/// or, if that can't be cut into tokens, those of the item that it ends with. In a string, a command and
+/// a comment nothing is offered. Of more than `LIMIT` texts only those are offered that begin with what
+/// stands before the cursor.
 ///
 /// # Errors
 ///
@@ -71,7 +75,7 @@ pub fn completions_at(
     let start = word_start(bytes, cursor);
     let end = word_end(bytes, cursor);
     let typed = &bytes[start..cursor];
-    let (found, is_incomplete) = found_after(alloc, names, front_of(text, start), typed, &ENDS)?;
+    let (found, is_incomplete) = found_at(alloc, names, front_of(text, start), typed)?;
     Ok(Completions {
         start,
         end,
@@ -80,24 +84,58 @@ pub fn completions_at(
     })
 }
 
+/// Returns what can be written after a text, where this is written already, and whether there is more: by
+/// the text, or by its last item alone, if the text has no tokens.
+fn found_at(
+    alloc: Global,
+    names: &[Offer<'_>],
+    front: &str,
+    typed: &[u8],
+) -> Result<(Vec<Completion>, bool), AllocError>
+    ensures { IfOk result (λ r. AreAt names.now front.now typed.now r.0.items r.1) }
+{
+    match found_after(alloc, names, front, typed, &ENDS)? {
+        Some(found) => Ok(found),
+        None => found_in_item(alloc, names, last_item(front), typed),
+    }
+}
+
+/// Returns what can be written after the text of an item, where this is written already, and whether
+/// there is more. Without tokens there is nothing.
+fn found_in_item(
+    alloc: Global,
+    names: &[Offer<'_>],
+    item: &str,
+    typed: &[u8],
+) -> Result<(Vec<Completion>, bool), AllocError>
+    ensures { IfOk result (λ r. AreInItem names.now item.now typed.now r.0.items r.1) }
+{
+    match found_after(alloc, names, item, typed, &ENDS)? {
+        Some(found) => Ok(found),
+        None => Ok((Vec::new(alloc), false)),
+    }
+}
+
 /// Returns what can be written after a text that one of these ends closes, where this is written
-/// already, and whether there is more.
+/// already, and whether there is more, or nothing if none of them closes it.
 fn found_after(
     alloc: Global,
     names: &[Offer<'_>],
     front: &str,
     typed: &[u8],
     ends: &[&str],
-) -> Result<(Vec<Completion>, bool), AllocError>
-    ensures { IfOk result (λ r. AreAfter names.now front.now typed.now
-        (map (λ end. end.now) ends.now) r.0.items r.1) }
+) -> Result<Option<(Vec<Completion>, bool)>, AllocError>
+    ensures some { IfOk result (λ found. IfSome found (λ r. AreAfter names.now front.now
+        typed.now (map (λ end. end.now) ends.now) r.0.items r.1)) }
+    ensures none { IfOk result (λ found. IfNone found
+        (AreTokens front.now (map (λ end. end.now) ends.now) None)) }
 {
     let Some((end, others)) = ends.split_first() else {
-        return Ok((Vec::new(alloc), false));
+        return Ok(None);
     };
     match found_with(alloc, names, front, typed, end)? {
-        Some(found) => Ok(found),
-        None => Ok(found_after(alloc, names, front, typed, others)?),
+        Some(found) => Ok(Some(found)),
+        None => found_after(alloc, names, front, typed, others),
     }
 }
 

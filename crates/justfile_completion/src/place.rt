@@ -2,11 +2,12 @@
 ghost use Rattle.std.specs.Prelude.{◌≡◌};
 ghost use Rattle.std.specs.List.{list_any};
 ghost use Rattle.std.specs.Str.{bytes_eq};
-ghost use Rattle.justfile_completion.specs.Places.{after_word, argument_of, in_arguments, in_attributes, in_brackets, in_dependency, in_expression, in_item, in_line, in_parameters, in_parentheses, in_rest, is_header, later_argument_of, place_of, value_of, value_of_setting};
+ghost use Rattle.justfile_completion.specs.Places.{after_equals, after_word, argument_of, in_arguments, in_attributes, in_brackets, in_dependency, in_expression, in_item, in_line, in_parameters, in_parentheses, in_rest, is_header, later_argument_of, place_of, value_of, value_of_key, value_of_setting};
 ghost use Rattle.justfile_completion.specs.Words.{from_opener, has};
 ghost use Rattle.justfile_completion.specs.Kinds.{is_assign, is_colon};
 
 use crate::kinds::{is_assign, is_blocking, is_bracket, is_colon, is_comma, is_equals};
+use crate::tables::attributes::EXPRESSION_KEYS;
 use crate::tables::settings::{EXPRESSION_SETTINGS, SWITCHES};
 use crate::words::{from_opener, is_spelled, starts_line};
 use justfile_token::Token;
@@ -209,6 +210,27 @@ fn later_argument_of(kind: Option<AttributeKind>) -> Place
     }
 }
 
+/// Returns the place of the value of the key of an attribute.
+fn value_of_key(key: &str) -> Place
+    ensures { result ≡ value_of_key key.now }
+{
+    if is_among(key, &EXPRESSION_KEYS) {
+        Place::Operand
+    } else {
+        Place::Nothing
+    }
+}
+
+/// Returns the place after the words up to the `=` of a key.
+fn after_equals(words: &[Token<'_>]) -> Place
+    ensures { result ≡ after_equals words.now }
+{
+    match words {
+        [_, key, ..] => value_of_key(key.lexeme()),
+        _ => Place::Nothing,
+    }
+}
+
 /// Returns the place in the arguments of the attribute with a name.
 fn in_arguments(name: &str, words: &[Token<'_>]) -> Place
     ensures { result ≡ in_arguments name.now words.now }
@@ -219,6 +241,7 @@ fn in_arguments(name: &str, words: &[Token<'_>]) -> Place
     match last.kind {
         TokenKind::Comma => later_argument_of(AttributeKind::from_name(name)),
         TokenKind::ParenL => argument_of(AttributeKind::from_name(name)),
+        TokenKind::Equals => after_equals(words),
         _ => in_expression(words),
     }
 }

@@ -186,6 +186,11 @@ pub(crate) static ATTRIBUTES: [Entry; 30] = [
     ),
 ];
 
+/// The keys of attributes whose value is an expression. That of any other is a string.
+pub(crate) static EXPRESSION_KEYS: [&str; 6] = [
+    "extra", "help", "inputs", "outputs", "pattern", "value",
+];
+
 /// The keys of the attribute `arg`.
 pub(crate) static ARG_KEYS: [Entry; 9] = [
     (
