@@ -50,8 +50,8 @@ local function go()
   row("and where it is used", lines()[2], "build: tidy")
 
   vim.api.nvim_win_set_cursor(0, { 2, 7 })
-  local labels = vim.tbl_map(function(completion) return completion.label end, ask("completion") or {})
-  row("what can be written after a colon", labels, { "build", "tidy" })
+  local labels = vim.tbl_map(function(item) return item.label end, (ask("completion") or { items = {} }).items)
+  row("what can be written after a colon", labels, { "tidy" })
   row("what is known of a name", ((ask("hover") or {}).contents or {}).value, "recipe tidy")
 
   vim.lsp.stop_client(client)

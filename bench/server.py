@@ -3,8 +3,9 @@
 
 Edits a justfile at random, by ranges, in both encodings. After each edit what the server says of it must be what it
 says of the whole text of a document that was just opened, and at the end what a new server says. The formatting edits
-must lead to a text that has no more edits. Before that it sends what is no message, and asks again, and follows links
-to files that are there. Prints a line for each part, and ends with 1 at the first difference.
+must lead to a text that has no more edits. Before that it sends what is no message, and asks again, follows links to
+files that are there, and asks what can be written at places of a justfile. Prints a line for each part, and ends with 1
+at the first difference.
 """
 import json
 import random
@@ -55,6 +56,117 @@ LINKS = {  # what a line of a justfile leads to among these files
     "import 'n m.just'": "n m.just",
     "import? '/n.just'": "/n.just",
 }
+NAMED = """set quiet
+target-dir := 'x'
+alias b := build
+double(n) := n + n
+build mode=target-dir *flags: tidy
+    echo {{ mode }}
+tidy:
+    rm
+"""
+ITEMS = set("alias eager export import mod set unexport".split())
+SETTINGS = "allow-duplicate-recipes allow-duplicate-variables default-list default-script dotenv-load dotenv-override "
+SETTINGS += "dotenv-required export fallback guards ignore-comments lazy lists no-cd no-exit-message quiet unstable "
+SETTINGS += "positional-arguments windows-powershell dotenv-command dotenv-filename dotenv-path tempdir working-directory "
+SETTINGS = set((SETTINGS + "script-interpreter shell windows-shell indentation minimum-version").split())
+ATTRIBUTES = "android dragonfly freebsd linux macos netbsd openbsd unix windows private default exit-message no-cd "
+ATTRIBUTES += "no-exit-message no-quiet parallel positional-arguments shell confirm doc timestamp working-directory env "
+ATTRIBUTES = set((ATTRIBUTES + "extension group metadata script continue cache arg").split())
+ARG_KEYS = set("long short pattern value help min max flag multiple".split())
+RECIPES = {"b", "build", "tidy"}
+OPERANDS = {"target-dir", "double", "env", "just_pid", "assert", "if", "RED"}
+PARAMETERS = {"mode", "flags", "n", "one", "two", "one-two"}
+CHOICES = [
+    # what is written up to the cursor, after the text above, and after it; the word there; and what can be written in
+    # its place: a set, or the parameters among the operands
+    ("", "", "", ITEMS),
+    ("al", "", "al", ITEMS),
+    ("ta", "rget:", "target", ITEMS),
+    ("set ", "", "", SETTINGS),
+    ("set no-", "cd", "no-cd", SETTINGS),
+    ("set shell := ", "", "", set()),
+    ("set shell := ['sh', ", "]", "", ()),
+    ("set quiet := ", "", "", {"false", "true"}),
+    ("set quiet ", "", "", set()),
+    ("set tempdir := ", "", "", ()),
+    ("set indentation := ", "", "", set()),
+    ("[", "", "", ATTRIBUTES),
+    ("[private, no-", "]", "no-", ATTRIBUTES),
+    ("[private]\n[", "]\nx:\n", "", ATTRIBUTES),
+    ('[arg("x", ', "", "", ARG_KEYS),
+    ('[arg("x", long, ', ")]", "", ARG_KEYS),
+    ('[arg("x", long=', ")]", "", set()),
+    ('[arg("x", pattern=', ")]", "", ()),
+    ("[arg(", "", "", set()),
+    ("[cache(", "", "", {"extra", "inputs", "outputs"}),
+    ("[cache(inputs=", ")]", "", ()),
+    ("[env('A', ", "", "", ()),
+    ("[confirm: ", "]", "", ()),
+    ("[script(", "", "", set()),
+    ("[group('", "", "", set()),
+    ("[private] ", "", "", set()),
+    ("new: ", "", "", RECIPES),
+    ("@new: ", "\n    echo\n", "", RECIPES),
+    ("new: ti", "", "ti", RECIPES),
+    ("new: tidy ", "", "", {"b", "build"}),
+    ("new: b && ", "", "", {"build", "tidy"}),
+    ("new: tidy \\\n  ", "", "", {"b", "build"}),
+    ("new: m::", "", "", set()),
+    ("new: (", ")", "", RECIPES),
+    ("new one: (build ", ")", "", ("one",)),
+    ("new one: (build 'a') ", "", "", RECIPES),
+    ("new one='a' two=", "", "", ("one",)),
+    ("new one ", "", "", set()),
+    ("new +", "", "", set()),
+    ("new one *two:\n    echo {{ ", "", "", ("one", "two")),
+    ("new one:\n    echo {{ o", "ne + target-dir }} a\n", "one", ("one",)),
+    ("new one:\n    echo {{ target-", "dir }}\n", "target-dir", ("one",)),
+    ("new one:\n    echo {{ env(", "'A') }}\n", "", ("one",)),
+    ("new one:\n    echo {{ join('a', quote(\n", "", "", ("one",)),
+    ("new one:\n    echo {{ if b == 'a' { ", "", "", ("one",)),
+    ("new one:\n    echo {{ [", "", "", ("one",)),
+    ("new one:\n    echo {{ f'{{ ", "", "", ("one",)),
+    ("new one:\n    echo {{ env('ta", "", "ta", set()),
+    ("new one:\n    echo {{ one }\nnext two: (tidy ", "", "", ("two",)),
+    ("new one:\n    echo {{ one }} ", "", "", set()),
+    ("new one:\n    ", "", "", set()),
+    ("new one:\n    set ", "", "", set()),
+    ("new one:\n    # {{ one }} ", "", "", set()),
+    ("x := ", "", "", ()),
+    ("x := target-", "dir + 'a'", "target-dir", ()),
+    ("x := target-dir ", "", "", set()),
+    ("x := target-dir + ", "", "", ()),
+    ("x := target-dir \\\n  / ", "", "", ()),
+    ("x := (\n  target-dir +\n  ", "\n)\n", "", ()),
+    ("x := env(\n  'A',\n  ", "\n)\n", "", ()),
+    ("x := [", "", "", ()),
+    ("x := 'ta", "", "ta", set()),
+    ('x := "ta', 'r"', "tar", set()),
+    ("x := `ta", "r`", "tar", set()),
+    ("x := '''\n  ta", "", "ta", set()),
+    ("x := ```\nta", "", "ta", set()),
+    ("x := f'a {{ ta", "r }} b'", "tar", ()),
+    ('x := f"a ', "", "", set()),
+    ("x := if ", "", "", ()),
+    ("x := if b == 'a' { 'c' } ", "", "", {"else"}),
+    ("x := if b == 'a' { 'c' } else ", "", "", {"if"}),
+    ("x := if b == 'a' { 'c' } else { ", "", "", ()),
+    ("# ta", "rget", "target", set()),
+    ("x := 'a' # ", "", "", set()),
+    ("alias c := ", "", "", RECIPES),
+    ("alias c", "", "c", set()),
+    ("export x := ", "", "", ()),
+    ("export ", "", "", set()),
+    ("import '", "", "", set()),
+    ("mod ", "", "", set()),
+    ("twice(one, two) := ", "", "", ("one", "two")),
+    ("twice(one-two) := one-", "two + 'a'", "one-two", ("one-two",)),
+    ("a b c\nnew: ", "", "", RECIPES),
+    ("x := )\nnew: ", "", "", RECIPES),
+    ("x := 'é' é\nnew: ", "", "", RECIPES),
+    ("new: ", "\n)\n", "", RECIPES),
+]
 QUERIES = ["documentSymbol", "foldingRange", "formatting", "documentLink", "semanticTokens/full"]
 
 
@@ -348,6 +460,33 @@ def follow_links(program):
     print(f"{len(wanted)} links lead to files")
 
 
+def complete(program, encoding):
+    """Asks what can be written at places of a justfile."""
+    server = Server(program, encoding)
+    server.open(DOCUMENT, NAMED)
+    for before, after, word, wanted in CHOICES:
+        text = NAMED + before + after
+        server.change(DOCUMENT, [{"text": text}])
+        place = position(text, len(NAMED + before), encoding)
+        found = server.ask("textDocument/completion", {"textDocument": {"uri": DOCUMENT}, "position": place})["result"]
+        labels = [item["label"] for item in found["items"]]
+        at = f"after {before!r}"
+        check(labels == sorted(set(labels)) and not found["isIncomplete"], f"{at} the texts aren't in order: {labels}")
+        for edit in (item["textEdit"] for item in found["items"]):
+            start, end = (offset(text, edit["range"][side], encoding) for side in ("start", "end"))
+            check(text[start:end] == word, f"{at} {text[start:end]!r} would be replaced")
+        check([item["textEdit"]["newText"] for item in found["items"]] == labels, f"{at} other texts are written than shown")
+        if isinstance(wanted, set):
+            check(set(labels) == wanted, f"{at} can be written: {labels}")
+        else:
+            lacking = OPERANDS.union(wanted).difference(labels)
+            check(not lacking, f"{at} {lacking} can't be written, but: {labels}")
+            others = (PARAMETERS.difference(wanted) | RECIPES | ITEMS) & set(labels)
+            check(not others, f"{at} {others} can be written")
+    check(server.end() == 0, "the status isn't 0")
+    print(f"{encoding}: what can be written at {len(CHOICES)} places")
+
+
 def main():
     program = sys.argv[1]
     edits = int(sys.argv[2]) if len(sys.argv) > 2 else 1000
@@ -356,6 +495,7 @@ def main():
     lose_texts(program)
     follow_links(program)
     for encoding in ("utf-8", "utf-16"):
+        complete(program, encoding)
         edit_at_random(program, encoding, edits // 2, chance)
 
 

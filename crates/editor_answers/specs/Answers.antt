@@ -1,7 +1,9 @@
 -- What is answered about a text.
 use Rattle.std.specs.Prelude.{◌≡◌, ℕ, List, [], None, Option, map}
 use Rattle.std.specs.List.{filter_map}
+use Rattle.justfile_lines.specs.Positions.{IsOffset}
 use Rattle.justfile_lines.specs.declared.encoding.Encoding.{Encoding}
+use Rattle.justfile_lines.specs.declared.position.Position.{Position}
 use Rattle.editor_messages.specs.declared.answer.Answer.{Answer}
 use Rattle.editor_messages.specs.declared.answer.Answer.TheVariants as answers
 use Rattle.editor_messages.specs.declared.error_code.ErrorCode.{ErrorCode}
@@ -10,12 +12,13 @@ use Rattle.editor_messages.specs.declared.message.Query.{Query}
 use Rattle.editor_messages.specs.declared.message.Query.TheVariants as queries
 use Rattle.editor_language.specs.declared.mention.Mention.{Mention}
 use Rattle.editor_language.specs.declared.parts.Analysis.{Analysis}
+use Rattle.editor_language.specs.declared.parts.Choices.{Choices}
 use Rattle.editor_language.specs.declared.parts.FileLink.{FileLink}
 use Rattle.editor_language.specs.declared.parts.Item.{Item}
 use Rattle.editor_answers.specs.Formatting.{Formats, FormatsRange}
 use Rattle.editor_answers.specs.Links.{LinksIn}
 use Rattle.editor_answers.specs.Names.{Bounds, Describes, IsDefinedAt, Locates, definitions_of, mentions_of}
-use Rattle.editor_answers.specs.Ranges.{fold_of, shown, to_show}
+use Rattle.editor_answers.specs.Ranges.{fold_of, range_of, shown, to_show}
 use Rattle.editor_answers.specs.Renames.{Declines, Renames}
 use Rattle.editor_answers.specs.declared.failure.Failure.{Failure}
 use Rattle.editor_answers.specs.declared.failure.Failure.TheVariants.{Memory, Refused}
@@ -35,6 +38,23 @@ pub record Among (mentioned : List ℕ → Analysis → List Mention → Type 0)
   pub mentions : List Mention
   pub are_mentions : mentioned text analysis mentions
   pub is : holds mentions
+
+-- the answer offers these texts, in the place of that part of the text
+abbrev pub Offers : Encoding → (text : List ℕ) → Choices → Answer → Type 0
+Offers encoding text choices (answers.Completions made) = (made.range ≡ range_of encoding text choices.span) × (made.is_incomplete ≡ choices.is_incomplete) × (made.found ≡ choices.found)
+Offers encoding text choices other = ⊥
+
+-- the answer offers what a language has for a position in a text with these mentions
+pub record OffersAt (completed : List ℕ → List Mention → ℕ → Choices → Type 0) (encoding : Encoding) (text : List ℕ) (position : Position) (answer : Answer) (mentions : List Mention) : Type 0 where
+  pub offset : ℕ
+  pub is_offset : IsOffset encoding text position offset
+  pub choices : Choices
+  pub are_choices : completed text mentions offset choices
+  pub is : Offers encoding text choices answer
+
+-- the same by the mentions in the text
+abbrev pub Completes : (mentioned : List ℕ → Analysis → List Mention → Type 0) (completed : List ℕ → List Mention → ℕ → Choices → Type 0) → Encoding → (text : List ℕ) → Analysis → Position → Answer → Type 0
+Completes mentioned completed encoding text analysis position answer = Among mentioned text analysis (OffersAt completed encoding text position answer)
 
 module _ (knows : List ℕ → Analysis → Type 0) (mentioned : List ℕ → Analysis → List Mention → Type 0) where
   -- what is told about the name at a position, by these mentions in a text
@@ -74,20 +94,21 @@ module _ (knows : List ℕ → Analysis → Type 0) (mentioned : List ℕ → An
   Lacks query code = Among mentioned text analysis (λ mentions. LacksName knows mentioned encoding text query mentions code)
 
   -- The answer to what is asked for about a text: its symbols and what can be folded are the items; formatting leads to its formatted text, or keeps that; what is told about the name
-  -- at a position is about its mentions in the text; a new name is put in the place of each of these and nowhere else, and changes no other one; and the links are those of the
-  -- language. What other answers hold is left open.
-  abbrev pub IsAnswer : (formats : List ℕ → List ℕ → Type 0) (unformatted names : List ℕ → Type 0) (linked : Option (List ℕ) → List ℕ → Analysis → List FileLink → Type 0) → Query → Answer → Type 0
-  IsAnswer formats unformatted names linked queries.Symbols answer = ShowsItems encoding text analysis.items.items answer
-  IsAnswer formats unformatted names linked queries.Folds answer = ShowsFolds encoding text analysis.items.items answer
-  IsAnswer formats unformatted names linked queries.Format answer = Formats formats unformatted encoding text answer
-  IsAnswer formats unformatted names linked (queries.FormatRange range) answer = FormatsRange formats unformatted encoding text answer
-  IsAnswer formats unformatted names linked (queries.Definition position) answer = Tells (queries.Definition position) answer
-  IsAnswer formats unformatted names linked (queries.References position all) answer = Tells (queries.References position all) answer
-  IsAnswer formats unformatted names linked (queries.PrepareRename position) answer = Tells (queries.PrepareRename position) answer
-  IsAnswer formats unformatted names linked (queries.Rename position new) answer = Replaces names analysis new.now (Tells (queries.Rename position new) answer)
-  IsAnswer formats unformatted names linked (queries.Hover position) answer = Tells (queries.Hover position) answer
-  IsAnswer formats unformatted names linked queries.Links answer = LinksIn linked encoding uri text analysis answer
-  IsAnswer formats unformatted names linked other answer = Unit {0}
+  -- at a position is about its mentions in the text; a new name is put in the place of each of these and nowhere else, and changes no other one; the links, and what can be
+  -- written at a position, are those of the language. What other answers hold is left open.
+  abbrev pub IsAnswer : (formats : List ℕ → List ℕ → Type 0) (unformatted names : List ℕ → Type 0) (linked : Option (List ℕ) → List ℕ → Analysis → List FileLink → Type 0) (completed : List ℕ → List Mention → ℕ → Choices → Type 0) → Query → Answer → Type 0
+  IsAnswer formats unformatted names linked completed queries.Symbols answer = ShowsItems encoding text analysis.items.items answer
+  IsAnswer formats unformatted names linked completed queries.Folds answer = ShowsFolds encoding text analysis.items.items answer
+  IsAnswer formats unformatted names linked completed queries.Format answer = Formats formats unformatted encoding text answer
+  IsAnswer formats unformatted names linked completed (queries.FormatRange range) answer = FormatsRange formats unformatted encoding text answer
+  IsAnswer formats unformatted names linked completed (queries.Definition position) answer = Tells (queries.Definition position) answer
+  IsAnswer formats unformatted names linked completed (queries.References position all) answer = Tells (queries.References position all) answer
+  IsAnswer formats unformatted names linked completed (queries.PrepareRename position) answer = Tells (queries.PrepareRename position) answer
+  IsAnswer formats unformatted names linked completed (queries.Rename position new) answer = Replaces names analysis new.now (Tells (queries.Rename position new) answer)
+  IsAnswer formats unformatted names linked completed (queries.Hover position) answer = Tells (queries.Hover position) answer
+  IsAnswer formats unformatted names linked completed queries.Links answer = LinksIn linked encoding uri text analysis answer
+  IsAnswer formats unformatted names linked completed (queries.Complete position) answer = Completes mentioned completed encoding text analysis position answer
+  IsAnswer formats unformatted names linked completed other answer = Unit {0}
 
   -- What is asked for about a text is refused for this reason. Only a new name is, and the question which name would be replaced.
   abbrev pub IsRefused : (names : List ℕ → Type 0) → Query → ErrorCode → Type 0

@@ -1,7 +1,7 @@
 //! Answers about a text.
 ghost use Rattle.std.specs.Prelude.{◌≡◌, IfErr, IfOk, IsOkUnless, map};
 ghost use Rattle.editor_messages.specs.declared.message.Query.TheVariants.{Rename};
-ghost use Rattle.editor_answers.specs.Answers.{FailsFor, IsAbout, IsAnswer, IsRefused, Lacks, LacksName, RefusesName, Replaces, ShowsFolds, ShowsItems, Tells};
+ghost use Rattle.editor_answers.specs.Answers.{Completes, FailsFor, IsAbout, IsAnswer, IsRefused, Lacks, LacksName, Offers, RefusesName, Replaces, ShowsFolds, ShowsItems, Tells};
 ghost use Rattle.editor_answers.specs.Links.{LinksIn};
 ghost use Rattle.editor_answers.specs.Ranges.{to_tell, told};
 
@@ -13,8 +13,8 @@ use crate::formats::{format, format_range};
 use crate::names::{definition, hover, references, rename, replaceable};
 use crate::renames::is_right;
 use crate::shown::Shown;
-use editor_language::{Analysis, Language, Mention, Problem};
-use editor_messages::{Answer, Diagnostic, ErrorCode, Query};
+use editor_language::{Analysis, Choices, Language, Mention, Problem};
+use editor_messages::{Answer, Completions, Diagnostic, ErrorCode, Query};
 use justfile_lines::{Encoding, Position};
 use std::alloc::{AllocError, Global};
 
@@ -55,7 +55,7 @@ pub fn answer<L: Language>(
     query: Query<'_>,
 ) -> Result<Answer, Failure>
     ensures ok { IfOk result (IsAnswer L.knows L.mentioned encoding uri.now text.now
-        analysis.now L.formats L.unformatted L.names L.linked query.entry) }
+        analysis.now L.formats L.unformatted L.names L.linked L.completed query.entry) }
     ensures failed { IfErr result (FailsFor (IsRefused L.knows L.mentioned encoding uri.now
         text.now analysis.now L.names query.entry)) }
 {
@@ -79,7 +79,7 @@ fn answer_of<L: Language>(
 ) -> Result<Answer, Failure>
     ensures ok { IfOk result (IsAnswer L.knows L.mentioned asked.now.shown.encoding
         asked.now.uri.now asked.now.text.now asked.now.analysis.now L.formats L.unformatted
-        L.names L.linked query.entry) }
+        L.names L.linked L.completed query.entry) }
     ensures failed { IfErr result (FailsFor (IsRefused L.knows L.mentioned
         asked.now.shown.encoding asked.now.uri.now asked.now.text.now asked.now.analysis.now
         L.names query.entry)) }
@@ -240,12 +240,25 @@ fn complete<L: Language>(
     asked: &Asked<'_>,
     position: Position,
 ) -> Result<Answer, Failure>
-    ensures { IsOkUnless result Failure.Memory }
+    ensures ok { IfOk result (Completes L.mentioned L.completed asked.now.shown.encoding
+        asked.now.text.now asked.now.analysis.now position) }
+    ensures failed { IsOkUnless result Failure.Memory }
 {
-    let offset = asked.shown.offset(position);
+    let offset = asked.offset(position);
     let mentions = asked.mentions(alloc, language)?;
-    let found = language.completions(alloc, asked.text, &mentions, offset)?;
-    Ok(Answer::Completions(found))
+    let choices = language.completions(alloc, asked.text, &mentions, offset)?;
+    Ok(completions(asked, choices))
+}
+
+/// Returns the answer that offers what can be written somewhere.
+fn completions(asked: &Asked<'_>, choices: Choices) -> Answer
+    ensures { Offers asked.now.shown.encoding asked.now.text.now choices result }
+{
+    Answer::Completions(Completions {
+        range: asked.range(choices.span),
+        is_incomplete: choices.is_incomplete,
+        found: choices.found,
+    })
 }
 
 /// Returns the kinds of the tokens of a text.

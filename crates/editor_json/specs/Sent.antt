@@ -1,8 +1,9 @@
 -- What is sent, as data of JSON. The members are in the order of their keys.
-use Rattle.std.specs.Prelude.{ℕ, ℤ, true, List, [], ◌∷◌, map, Option, Some, None, codes, string_bytes}
+use Rattle.std.specs.Prelude.{◌++◌, ℕ, ℤ, true, List, [], ◌∷◌, map, Option, Some, None, codes, string_bytes}
 use Rattle.serde_json.specs.Data.{Data, null, boolean, number, string, array, object, unsigned, item, no_items, member, no_members, Members}
 use Rattle.serde_json.specs.Find.{of_integer}
 use Rattle.serde_json.specs.View.{items_of}
+use Rattle.serde_json.specs.Written.{compact_text}
 use Rattle.justfile_lines.specs.declared.encoding.Encoding.{Encoding}
 use Rattle.justfile_lines.specs.declared.encoding.Encoding.TheVariants.{Utf8, Utf16}
 use Rattle.justfile_lines.specs.declared.position.Position.{Position}
@@ -12,6 +13,7 @@ use Rattle.editor_messages.specs.Numbers.{completion_number, error_number, symbo
 use Rattle.editor_messages.specs.declared.answer.Answer.{Answer}
 use Rattle.editor_messages.specs.declared.answer.Answer.TheVariants as answers
 use Rattle.editor_messages.specs.declared.answer.Completion.{Completion}
+use Rattle.editor_messages.specs.declared.answer.Completions.{Completions}
 use Rattle.editor_messages.specs.declared.answer.Diagnostic.{Diagnostic}
 use Rattle.editor_messages.specs.declared.answer.Fold.{Fold}
 use Rattle.editor_messages.specs.declared.answer.Hover.{Hover}
@@ -69,8 +71,12 @@ symbol_data s = object (member (codes "kind") (count_data (symbol_number s.kind)
 abbrev pub fold_data : Fold → Data
 fold_data f = object (member (codes "endLine") (count_data f.last) (member (codes "startLine") (count_data f.first) no_members))
 
+-- an edit that puts a text in place of a range
+abbrev pub put_data : Range → (new : List ℕ) → Data
+put_data range new = object (member (codes "newText") (text_data new) (member (codes "range") (range_data range) no_members))
+
 abbrev pub edit_data : TextEdit → Data
-edit_data e = object (member (codes "newText") (text_data (string_bytes e.text)) (member (codes "range") (range_data e.range) no_members))
+edit_data e = put_data e.range (string_bytes e.text)
 
 abbrev pub place_data : (uri : List ℕ) → Range → Data
 place_data uri r = object (member (codes "range") (range_data r) (member (codes "uri") (text_data uri) no_members))
@@ -78,8 +84,22 @@ place_data uri r = object (member (codes "range") (range_data r) (member (codes 
 abbrev pub link_data : Link → Data
 link_data l = object (member (codes "range") (range_data l.range) (member (codes "target") (text_data (string_bytes l.target)) no_members))
 
-abbrev pub completion_data : Completion → Data
-completion_data c = object (member (codes "kind") (count_data (completion_number c.kind)) (member (codes "label") (text_data (string_bytes c.label)) no_members))
+-- a member with a text before others, if the text isn't empty
+abbrev pub optional : (key text : List ℕ) → Members → Members
+optional key [] others = others
+optional key (c ∷ text) others = member key (text_data (c ∷ text)) others
+
+-- its text with the comma after it
+abbrev pub optional_text : (key text : List ℕ) → List ℕ
+optional_text key [] = []
+optional_text key (c ∷ text) = compact_text (text_data key) ++ 58 ∷ (compact_text (text_data (c ∷ text)) ++ 44 ∷ [])
+
+-- what can be written in place of a range
+abbrev pub completion_data : Range → Completion → Data
+completion_data range c = object (optional (codes "detail") (string_bytes c.detail) (optional (codes "documentation") (string_bytes c.documentation) (member (codes "kind") (count_data (completion_number c.kind)) (member (codes "label") (text_data (string_bytes c.label)) (member (codes "textEdit") (put_data range (string_bytes c.label)) no_members)))))
+
+abbrev pub completions_data : Completions → Data
+completions_data cs = object (member (codes "isIncomplete") (boolean cs.is_incomplete) (member (codes "items") (list_data (completion_data cs.range) cs.found.items) no_members))
 
 abbrev pub markup_data : (text : List ℕ) → Data
 markup_data text = object (member (codes "kind") (text_data (codes "plaintext")) (member (codes "value") (text_data text) no_members))
@@ -100,6 +120,13 @@ encoding_name Utf16 = codes "utf-16"
 
 abbrev pub nothing_more : Data
 nothing_more = object no_members
+
+-- after each of these characters a name or a keyword can follow
+abbrev pub triggers : List (List ℕ)
+triggers = codes "(" ∷ codes "," ∷ codes ":" ∷ codes "=" ∷ codes "[" ∷ codes "{" ∷ []
+
+abbrev pub completion_ability : Data
+completion_ability = object (member (codes "triggerCharacters") (list_data text_data triggers) no_members)
 
 abbrev pub token_types : List (List ℕ)
 token_types = codes "comment" ∷ codes "string" ∷ codes "operator" ∷ codes "keyword" ∷ codes "property" ∷ codes "function" ∷ codes "variable" ∷ codes "parameter" ∷ []
@@ -123,7 +150,7 @@ abbrev pub middle_abilities : Encoding → Members
 middle_abilities encoding = member (codes "documentRangeFormattingProvider") (boolean true) (member (codes "documentSymbolProvider") (boolean true) (member (codes "foldingRangeProvider") (boolean true) (member (codes "hoverProvider") (boolean true) (last_abilities encoding))))
 
 abbrev pub abilities : Encoding → Members
-abilities encoding = member (codes "completionProvider") nothing_more (member (codes "definitionProvider") (boolean true) (member (codes "documentFormattingProvider") (boolean true) (member (codes "documentLinkProvider") nothing_more (middle_abilities encoding))))
+abilities encoding = member (codes "completionProvider") completion_ability (member (codes "definitionProvider") (boolean true) (member (codes "documentFormattingProvider") (boolean true) (member (codes "documentLinkProvider") nothing_more (middle_abilities encoding))))
 
 abbrev pub server_data : Data
 server_data = object (member (codes "name") (text_data (codes "justfile_server")) no_members)
@@ -142,7 +169,7 @@ result_data (answers.Places uri ranges) = list_data (place_data (string_bytes ur
 result_data (answers.Place range) = range_data range
 result_data (answers.Rename rename) = rename_data (string_bytes rename.uri) rename.edits.items
 result_data (answers.Hover hover) = hover_data hover
-result_data (answers.Completions completions) = list_data completion_data completions.items
+result_data (answers.Completions completions) = completions_data completions
 result_data (answers.Tokens numbers) = tokens_data numbers.items
 result_data (answers.Links links) = list_data link_data links.items
 

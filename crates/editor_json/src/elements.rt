@@ -1,9 +1,11 @@
 //! The elements of lists as JSON.
-ghost use Rattle.std.specs.Prelude.{◌≡◌, IfOk};
+ghost use Rattle.std.specs.Prelude.{◌≡◌, IfOk, string_bytes};
 ghost use Rattle.serde_json.specs.View.{view};
-ghost use Rattle.editor_json.specs.Sent.{completion_data, count_data, diagnostic_data, edit_data, fold_data, link_data, place_data, symbol_data};
+ghost use Rattle.serde_json.specs.Written.{compact_text};
+ghost use Rattle.editor_json.specs.Sent.{completion_data, count_data, diagnostic_data, edit_data, fold_data, link_data, optional_text, place_data, put_data, symbol_data};
 
 use crate::lists::Written;
+use crate::results::quoted;
 use crate::values::{range_value, text_of};
 use editor_messages::{Completion, Diagnostic, Fold, Link, Symbol};
 use serde_json::{Value, json};
@@ -11,36 +13,49 @@ use std::alloc::{AllocError, Global};
 use text_edits::{Range, TextEdit};
 
 impl Written for usize {
+    type Shared = ();
+
     ghost written = { λ _. count_data };
 
-    fn text(&self, alloc: Global, _uri: &str) -> Result<String, AllocError> {
+    fn text(&self, alloc: Global, _shared: &()) -> Result<String, AllocError> {
         self.to_string(alloc)
     }
 }
 
 impl Written for TextEdit {
+    type Shared = ();
+
     ghost written = { λ _. edit_data };
 
-    fn text(&self, alloc: Global, _uri: &str) -> Result<String, AllocError> {
-        let value = edit_value(alloc, self)?;
-        text_of(alloc, &value)
+    fn text(&self, alloc: Global, _shared: &()) -> Result<String, AllocError> {
+        edit_text(alloc, self.range, self.text.as_str())
     }
 }
 
-/// Returns an edit.
-fn edit_value(alloc: Global, edit: &TextEdit) -> Result<Value, AllocError>
-    ensures { IfOk result (λ v. view v ≡ edit_data edit.now) }
+/// Returns the text of the edit that puts a text in place of a range.
+fn edit_text(alloc: Global, range: Range, new: &str) -> Result<String, AllocError>
+    ensures { IfOk result (λ text. string_bytes text ≡ compact_text (put_data range new.now)) }
 {
-    let range = range_value(alloc, edit.range)?;
-    let text = edit.text.as_str();
-    json!(in alloc; {"range": range, "newText": text})
+    let value = edit_value(alloc, range, new)?;
+    text_of(alloc, &value)
+}
+
+/// Returns the edit that puts a text in place of a range.
+fn edit_value(alloc: Global, range: Range, new: &str) -> Result<Value, AllocError>
+    ensures { IfOk result (λ v. view v ≡ put_data range new.now) }
+{
+    let range = range_value(alloc, range)?;
+    json!(in alloc; {"range": range, "newText": new})
 }
 
 impl Written for Range {
-    ghost written = { place_data };
+    // the address of the document
+    type Shared = String;
 
-    fn text(&self, alloc: Global, uri: &str) -> Result<String, AllocError> {
-        let value = place_value(alloc, uri, *self)?;
+    ghost written = { λ uri. place_data (string_bytes uri) };
+
+    fn text(&self, alloc: Global, uri: &String) -> Result<String, AllocError> {
+        let value = place_value(alloc, uri.as_str(), *self)?;
         text_of(alloc, &value)
     }
 }
@@ -54,9 +69,11 @@ fn place_value(alloc: Global, uri: &str, range: Range) -> Result<Value, AllocErr
 }
 
 impl Written for Symbol {
+    type Shared = ();
+
     ghost written = { λ _. symbol_data };
 
-    fn text(&self, alloc: Global, _uri: &str) -> Result<String, AllocError> {
+    fn text(&self, alloc: Global, _shared: &()) -> Result<String, AllocError> {
         let value = symbol_value(alloc, self)?;
         text_of(alloc, &value)
     }
@@ -74,9 +91,11 @@ fn symbol_value(alloc: Global, symbol: &Symbol) -> Result<Value, AllocError>
 }
 
 impl Written for Fold {
+    type Shared = ();
+
     ghost written = { λ _. fold_data };
 
-    fn text(&self, alloc: Global, _uri: &str) -> Result<String, AllocError> {
+    fn text(&self, alloc: Global, _shared: &()) -> Result<String, AllocError> {
         let value = fold_value(alloc, self)?;
         text_of(alloc, &value)
     }
@@ -90,9 +109,11 @@ fn fold_value(alloc: Global, fold: &Fold) -> Result<Value, AllocError>
 }
 
 impl Written for Link {
+    type Shared = ();
+
     ghost written = { λ _. link_data };
 
-    fn text(&self, alloc: Global, _uri: &str) -> Result<String, AllocError> {
+    fn text(&self, alloc: Global, _shared: &()) -> Result<String, AllocError> {
         let value = link_value(alloc, self)?;
         text_of(alloc, &value)
     }
@@ -108,27 +129,56 @@ fn link_value(alloc: Global, link: &Link) -> Result<Value, AllocError>
 }
 
 impl Written for Completion {
-    ghost written = { λ _. completion_data };
+    // what the text takes the place of
+    type Shared = Range;
 
-    fn text(&self, alloc: Global, _uri: &str) -> Result<String, AllocError> {
-        let value = completion_value(alloc, self)?;
-        text_of(alloc, &value)
+    ghost written = { completion_data };
+
+    fn text(&self, alloc: Global, range: &Range) -> Result<String, AllocError> {
+        completion_text(alloc, self, *range)
     }
 }
 
-/// Returns something that can be written.
-fn completion_value(alloc: Global, completion: &Completion) -> Result<Value, AllocError>
-    ensures { IfOk result (λ v. view v ≡ completion_data completion.now) }
+/// Returns the text of something that can be written in place of a range.
+fn completion_text(
+    alloc: Global,
+    completion: &Completion,
+    range: Range,
+) -> Result<String, AllocError>
+    ensures { IfOk result (λ text.
+        string_bytes text ≡ compact_text (completion_data range completion.now)) }
 {
     let label = completion.label.as_str();
+    let first = member_text(alloc, "detail", completion.detail.as_str())?;
+    let second = member_text(alloc, "documentation", completion.documentation.as_str())?;
     let kind = completion.kind.number();
-    json!(in alloc; {"label": label, "kind": kind})
+    let edit = edit_text(alloc, range, label)?;
+    let label = quoted(alloc, label)?;
+    let text = format!(in alloc;
+        "{{{first}{second}\"kind\":{kind},\"label\":{label},\"textEdit\":{edit}}}"
+    )?;
+    Ok(text)
+}
+
+/// Returns the text of a member before others, if it isn't empty.
+fn member_text(alloc: Global, key: &str, text: &str) -> Result<String, AllocError>
+    ensures { IfOk result (λ made. string_bytes made ≡ optional_text key.now text.now) }
+{
+    if text.is_empty() {
+        return Ok(String::new(alloc));
+    }
+    let key = quoted(alloc, key)?;
+    let text = quoted(alloc, text)?;
+    let made = format!(in alloc; "{key}:{text},")?;
+    Ok(made)
 }
 
 impl Written for Diagnostic {
+    type Shared = ();
+
     ghost written = { λ _. diagnostic_data };
 
-    fn text(&self, alloc: Global, _uri: &str) -> Result<String, AllocError> {
+    fn text(&self, alloc: Global, _shared: &()) -> Result<String, AllocError> {
         let value = diagnostic_value(alloc, self)?;
         text_of(alloc, &value)
     }

@@ -2,11 +2,11 @@
 ghost use Rattle.std.specs.Prelude.{◌≡◌, IfOk, string_bytes};
 ghost use Rattle.serde_json.specs.View.{view};
 ghost use Rattle.serde_json.specs.Written.{compact_text};
-ghost use Rattle.editor_json.specs.Sent.{abilities_data, encoding_name, hover_data, range_data, rename_data, result_data, text_data, tokens_data};
+ghost use Rattle.editor_json.specs.Sent.{abilities_data, completions_data, encoding_name, hover_data, range_data, rename_data, result_data, text_data, tokens_data};
 
 use crate::lists::list_text;
 use crate::values::{range_value, text_of};
-use editor_messages::{Answer, Hover};
+use editor_messages::{Answer, Completions, Hover};
 use justfile_lines::Encoding;
 use serde_json::{Value, json};
 use std::alloc::{AllocError, Global};
@@ -20,16 +20,16 @@ pub(crate) fn result_text(alloc: Global, answer: &Answer) -> Result<String, Allo
     match answer {
         Answer::Nothing => String::from_str(alloc, "null"),
         Answer::Abilities(encoding) => abilities_text(alloc, *encoding),
-        Answer::Symbols(symbols) => list_text(alloc, "", symbols),
-        Answer::Folds(folds) => list_text(alloc, "", folds),
-        Answer::Edits(edits) => list_text(alloc, "", edits),
-        Answer::Places(uri, ranges) => list_text(alloc, uri.as_str(), ranges),
+        Answer::Symbols(symbols) => list_text(alloc, &(), symbols),
+        Answer::Folds(folds) => list_text(alloc, &(), folds),
+        Answer::Edits(edits) => list_text(alloc, &(), edits),
+        Answer::Places(uri, ranges) => list_text(alloc, uri, ranges),
         Answer::Place(range) => range_text(alloc, *range),
         Answer::Rename(rename) => rename_text(alloc, rename.uri.as_str(), &rename.edits),
         Answer::Hover(hover) => hover_text(alloc, hover),
-        Answer::Completions(completions) => list_text(alloc, "", completions),
+        Answer::Completions(completions) => completions_text(alloc, completions),
         Answer::Tokens(numbers) => tokens_text(alloc, numbers),
-        Answer::Links(links) => list_text(alloc, "", links),
+        Answer::Links(links) => list_text(alloc, &(), links),
     }
 }
 
@@ -43,9 +43,13 @@ fn encoding_name(encoding: Encoding) -> &'static str
     }
 }
 
-/// What the server can do, before the encoding that it counts columns in.
+/// What the server can do, before the encoding that it counts columns in. An editor asks what can be
+/// written at each letter of a word, and right after the characters that are named here: after each of
+/// them a name or a keyword can follow. There is no quote among them, since in a string there is nothing
+/// to ask for, and no space, which is in each line of a body.
 const BEFORE: &str = "{\"capabilities\":{\
-    \"completionProvider\":{},\
+    \"completionProvider\":{\"triggerCharacters\":[\
+        \"(\",\",\",\":\",\"=\",\"[\",\"{\"]},\
     \"definitionProvider\":true,\
     \"documentFormattingProvider\":true,\
     \"documentLinkProvider\":{},\
@@ -88,7 +92,7 @@ fn rename_text(alloc: Global, uri: &str, edits: &[TextEdit]) -> Result<String, A
         (λ text. string_bytes text ≡ compact_text (rename_data uri.now edits.now)) }
 {
     let uri = quoted(alloc, uri)?;
-    let edits = list_text(alloc, "", edits)?;
+    let edits = list_text(alloc, &(), edits)?;
     let text = format!(in alloc; "{{\"changes\":{{{uri}:{edits}}}}}")?;
     Ok(text)
 }
@@ -118,11 +122,22 @@ fn hover_value(alloc: Global, hover: &Hover) -> Result<Value, AllocError>
     json!(in alloc; {"contents": {"kind": "plaintext", "value": text}, "range": range})
 }
 
+/// Returns the text of what can be written.
+#[tactic(auto, unfolding(serde_json::proofs::OnLiterals::serde_json_on_literals))]
+fn completions_text(alloc: Global, completions: &Completions) -> Result<String, AllocError>
+    ensures { IfOk result
+        (λ text. string_bytes text ≡ compact_text (completions_data completions.now)) }
+{
+    let is_incomplete = completions.is_incomplete;
+    let items = list_text(alloc, &completions.range, &completions.found)?;
+    format!(in alloc; "{{\"isIncomplete\":{is_incomplete},\"items\":{items}}}")
+}
+
 /// Returns the text of the kinds of tokens.
 #[tactic(auto, unfolding(serde_json::proofs::OnLiterals::serde_json_on_literals))]
 fn tokens_text(alloc: Global, numbers: &[usize]) -> Result<String, AllocError>
     ensures { IfOk result (λ text. string_bytes text ≡ compact_text (tokens_data numbers.now)) }
 {
-    let list = list_text(alloc, "", numbers)?;
+    let list = list_text(alloc, &(), numbers)?;
     format!(in alloc; "{{\"data\":{list}}}")
 }

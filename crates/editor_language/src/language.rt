@@ -2,11 +2,11 @@
 ghost use Rattle.std.specs.Prelude.{◌↔◌, ℕ, List, Option, IfOk, IsTrue, MatchOption, option_copied, string_bytes};
 ghost use Rattle.editor_language.specs.declared.mention.Mention.{Mention};
 ghost use Rattle.editor_language.specs.declared.parts.Analysis.{Analysis};
+ghost use Rattle.editor_language.specs.declared.parts.Choices.{Choices};
 ghost use Rattle.editor_language.specs.declared.parts.FileLink.{FileLink};
 
 use crate::mention::Mention;
-use crate::parts::{Analysis, Colored, FileLink, Part, Span};
-use editor_messages::Completion;
+use crate::parts::{Analysis, Choices, Colored, FileLink, Part, Span};
 use std::alloc::{AllocError, Global};
 
 /// A language.
@@ -29,6 +29,9 @@ pub trait Language {
     /// These are the links to files, from the folder at a path if there is one, in the text of
     /// which this is known.
     ghost linked: { Option (List ℕ) → List ℕ → Analysis → List FileLink → Type 0 };
+
+    /// This can be written at an offset of the text, which has these mentions.
+    ghost completed: { List ℕ → List Mention → ℕ → Choices → Type 0 };
 
     /// Returns what is known of a text.
     ///
@@ -117,7 +120,7 @@ pub trait Language {
         definition: &Mention,
     ) -> Result<String, AllocError>;
 
-    /// Returns what can be written at an offset.
+    /// Returns what can be written at an offset of a text with these mentions.
     ///
     /// # Errors
     ///
@@ -128,7 +131,8 @@ pub trait Language {
         text: &str,
         mentions: &[Mention],
         offset: usize,
-    ) -> Result<Vec<Completion>, AllocError>;
+    ) -> Result<Choices, AllocError>
+        ensures { IfOk result (completed text.now mentions.now offset) };
 
     /// Returns how the tokens of a text are shown, in their order.
     ///

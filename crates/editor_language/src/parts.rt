@@ -1,5 +1,5 @@
 //! What a text consists of.
-use editor_messages::SymbolKind;
+use editor_messages::{Completion, SymbolKind};
 
 /// A part of a text: from an offset up to another one.
 #[derive(Clone, Copy)]
@@ -64,6 +64,17 @@ pub struct Part {
     pub span: Span,
     /// What it is replaced by.
     pub text: String,
+}
+
+/// What can be written somewhere.
+#[derive(Drop)]
+pub struct Choices {
+    /// What each text takes the place of.
+    pub span: Span,
+    /// Whether there may be other texts once more is written.
+    pub is_incomplete: bool,
+    /// The texts.
+    pub found: Vec<Completion>,
 }
 
 /// How a token is shown.

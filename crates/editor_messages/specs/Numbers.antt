@@ -27,5 +27,6 @@ abbrev pub completion_number : CompletionKind → ℕ
 completion_number completions.Function = 3
 completion_number completions.Variable = 6
 completion_number completions.Property = 10
+completion_number completions.Value = 12
 completion_number completions.Keyword = 14
 completion_number completions.Constant = 21

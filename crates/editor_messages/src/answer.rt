@@ -60,10 +60,12 @@ pub struct Hover {
 pub enum CompletionKind {
     /// A function, or what is run.
     Function,
-    /// A variable.
+    /// A variable, or a parameter.
     Variable,
-    /// A setting, or an attribute.
+    /// A setting, an attribute, or a key of one.
     Property,
+    /// A value, such as the name of a group.
+    Value,
     /// A keyword.
     Keyword,
     /// A constant.
@@ -79,19 +81,35 @@ impl CompletionKind {
             CompletionKind::Function => 3,
             CompletionKind::Variable => 6,
             CompletionKind::Property => 10,
+            CompletionKind::Value => 12,
             CompletionKind::Keyword => 14,
             CompletionKind::Constant => 21,
         }
     }
 }
 
-/// What can be written somewhere.
+/// A text that can be written somewhere.
 #[derive(Drop)]
 pub struct Completion {
     /// The text.
     pub label: String,
     /// What it stands for.
     pub kind: CompletionKind,
+    /// What is shown beside it. May be empty.
+    pub detail: String,
+    /// What it is for. May be empty.
+    pub documentation: String,
+}
+
+/// What can be written somewhere.
+#[derive(Drop)]
+pub struct Completions {
+    /// What each text takes the place of.
+    pub range: Range,
+    /// Whether there may be other texts once more is written.
+    pub is_incomplete: bool,
+    /// The texts.
+    pub found: Vec<Completion>,
 }
 
 /// A link.
@@ -125,7 +143,7 @@ pub enum Answer {
     /// What is known of a name.
     Hover(Hover),
     /// What can be written.
-    Completions(Vec<Completion>),
+    Completions(Completions),
     /// The kinds of tokens, as the protocol writes them.
     Tokens(Vec<usize>),
     /// Links.

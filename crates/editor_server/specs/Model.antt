@@ -20,6 +20,7 @@ use Rattle.editor_messages.specs.declared.message.Request.{Request}
 use Rattle.editor_messages.specs.declared.message.Request.TheVariants as requests
 use Rattle.editor_language.specs.declared.mention.Mention.{Mention}
 use Rattle.editor_language.specs.declared.parts.Analysis.{Analysis}
+use Rattle.editor_language.specs.declared.parts.Choices.{Choices}
 use Rattle.editor_language.specs.declared.parts.FileLink.{FileLink}
 use Rattle.editor_answers.specs.Answers.{IsAnswer, IsRefused}
 use Rattle.editor_answers.specs.Ranges.{to_tell, told}
@@ -109,10 +110,10 @@ reason_of ShutDown codes.MethodNotFound = codes.InvalidRequest
 reason_of ShutDown codes.InvalidParams = codes.InvalidRequest
 reason_of stage code = code
 
-module _ (knows : List ℕ → Analysis → Type 0) (mentioned : List ℕ → Analysis → List Mention → Type 0) (formats : List ℕ → List ℕ → Type 0) (unformatted names : List ℕ → Type 0) (linked : Option (List ℕ) → List ℕ → Analysis → List FileLink → Type 0) where
+module _ (knows : List ℕ → Analysis → Type 0) (mentioned : List ℕ → Analysis → List Mention → Type 0) (formats : List ℕ → List ℕ → Type 0) (unformatted names : List ℕ → Type 0) (linked : Option (List ℕ) → List ℕ → Analysis → List FileLink → Type 0) (completed : List ℕ → List Mention → ℕ → Choices → Type 0) where
   -- the answer about the document that is at an address
   abbrev pub IsAnswerAbout : Encoding → (uri : List ℕ) → Query → Option Document → Answer → Type 0
-  IsAnswerAbout encoding uri query (Some d) answer = IsAnswer knows mentioned encoding uri (string_bytes d.text) d.analysis formats unformatted names linked query answer
+  IsAnswerAbout encoding uri query (Some d) answer = IsAnswer knows mentioned encoding uri (string_bytes d.text) d.analysis formats unformatted names linked completed query answer
   IsAnswerAbout encoding uri query None answer = ⊥
 
   -- the answer to a request

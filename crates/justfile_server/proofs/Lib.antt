@@ -2,4 +2,5 @@ pub mod Firsts
 pub mod Given
 pub mod ItemMentions
 pub mod Linked
+pub mod Offered
 pub mod Unformatted

@@ -1,3 +1,4 @@
+pub mod Choices
 pub mod Links
 pub mod Mentioned
 pub mod Modules

@@ -3,18 +3,18 @@ ghost use Rattle.std.specs.Prelude.{◌⊎◌};
 ghost use Rattle.justfile_canonical.specs.Formatting.{HasNone, IsFormatted, LacksNumbers};
 ghost use Rattle.justfile_mentions.specs.Names.{IsName};
 ghost use Rattle.justfile_analysis.specs.Knowledge.{Knows};
+ghost use Rattle.justfile_server.specs.Choices.{AreChoices};
 ghost use Rattle.justfile_server.specs.Links.{IsPathOf, Links};
 ghost use Rattle.justfile_server.specs.Mentioned.{Mentioned};
 
+use crate::choices::choices_at;
 use crate::chunk::description_of;
 use crate::colors::colors_of;
-use crate::completion::completions_at;
 use crate::links::links_of;
 use crate::mentions::mentions_of;
 use crate::modules::Folders;
 use crate::ranges::formatted_in;
-use editor_language::{Analysis, Colored, FileLink, Language, Mention, Part, Span};
-use editor_messages::Completion;
+use editor_language::{Analysis, Choices, Colored, FileLink, Language, Mention, Part, Span};
 use justfile_analysis::{analysis_after, analysis_of};
 use justfile_canonical::fault::FormatFault;
 use justfile_canonical::formatting::format_text;
@@ -41,6 +41,8 @@ impl<F: Folders> Language for Justfiles<'_, F> {
 
     ghost linked = { λ folder text analysis links.
         Links (IsPathOf F.has folder text) analysis.items.items links };
+
+    ghost completed = { AreChoices };
 
     fn analysis(&self, alloc: Global, text: &str) -> Result<Analysis, AllocError> {
         analysis_of(alloc, text)
@@ -112,8 +114,8 @@ impl<F: Folders> Language for Justfiles<'_, F> {
         text: &str,
         mentions: &[Mention],
         offset: usize,
-    ) -> Result<Vec<Completion>, AllocError> {
-        completions_at(alloc, text, mentions, offset)
+    ) -> Result<Choices, AllocError> {
+        choices_at(alloc, text, mentions, offset)
     }
 
     fn colored(

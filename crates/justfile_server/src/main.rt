@@ -2,15 +2,14 @@
 //! output.
 #![tactic(auto)]
 
+mod choices;
 mod chunk;
 mod colors;
 mod commit;
-mod completion;
 mod justfiles;
 mod links;
 mod mentions;
 mod modules;
-mod places;
 mod ranges;
 
 use commit::COMMIT;

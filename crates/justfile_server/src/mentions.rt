@@ -71,7 +71,7 @@ fn mentions_of_items(alloc: Global, text: &str, items: &[Item]) -> Result<Vec<Me
 }
 
 /// Adds the mentions in the text of an item, which begins at an offset.
-pub(crate) fn push_chunk(
+fn push_chunk(
     alloc: Global,
     mentions: &mut Vec<Mention>,
     chunk: &str,

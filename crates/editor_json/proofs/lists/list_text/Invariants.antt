@@ -3,4 +3,4 @@ use Rattle.editor_json.proofs.Pieces.{IsOpen}
 use Rattle.editor_json.proofs.lists.list_text.Given as goal
 
 abbrev pub invariant-loop-item : goal.invariant-loop-item
-invariant-loop-item g l = IsOpen (string_bytes l.list) l.is_later (map (g.T.Written.written l.uri) (take l.item-index l.items))
+invariant-loop-item g l = IsOpen (string_bytes l.list) l.is_later (map (g.T.Written.written l.shared) (take l.item-index l.items))

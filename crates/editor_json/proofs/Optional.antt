@@ -1,0 +1,55 @@
+-- Members that are there only with a text.
+use Rattle.std.proofs.Common.{◌≡◌, ◌∙◌, ◌++◌, ℕ, true, false, List, [], ◌∷◌, codes, refl, sym, ap, append_assoc, string_bytes}
+use Rattle.std.specs.Prelude.{decimal}
+use Rattle.serde_json.proofs.OnLiterals.{serde_json_on_literals}
+use Rattle.serde_json.specs.Data.{Members, member, no_members}
+use Rattle.serde_json.specs.Written.{compact_text, members_text}
+use Rattle.text_edits.specs.declared.edit.Range.{Range}
+use Rattle.editor_messages.specs.Numbers.{completion_number}
+use Rattle.editor_messages.specs.declared.answer.Completion.{Completion}
+use Rattle.editor_json.specs.Sent.{completion_data, count_data, optional, optional_text, put_data, text_data}
+
+-- more members have a comma before them
+abbrev HasComma : Members → Type 0
+HasComma ms = members_text true ms ≡ 44 ∷ members_text false ms
+
+comma_before : (key text : List ℕ) (ms : Members) → HasComma ms → HasComma (optional key text ms)
+comma_before key [] ms h = h
+comma_before key (c ∷ text) ms h = refl
+
+joined : (a b rest : List ℕ) → a ++ 58 ∷ (b ++ 44 ∷ rest) ≡ (a ++ 58 ∷ (b ++ 44 ∷ [])) ++ rest
+joined a b rest = sym (append_assoc a (58 ∷ (b ++ 44 ∷ [])) rest ∙ ap (λ (t : List ℕ). a ++ 58 ∷ t) (append_assoc b (44 ∷ []) rest))
+
+with_optional : (key text : List ℕ) (ms : Members) → HasComma ms → members_text false (optional key text ms) ≡ optional_text key text ++ members_text false ms
+with_optional key [] ms h = refl
+with_optional key (c ∷ text) ms h =
+    ap (λ (t : List ℕ). compact_text (text_data key) ++ 58 ∷ (compact_text (text_data (c ∷ text)) ++ t)) h
+    ∙ joined (compact_text (text_data key)) (compact_text (text_data (c ∷ text))) (members_text false ms)
+
+abbrev last_members : Range → Completion → Members
+last_members range c = member (codes "kind") (count_data (completion_number c.kind)) (member (codes "label") (text_data (string_bytes c.label)) (member (codes "textEdit") (put_data range (string_bytes c.label)) no_members))
+
+last_written : (range : Range) (c : Completion)
+    → codes "\"kind\":" ++ (decimal (completion_number c.kind) ++ (codes ",\"label\":" ++ (compact_text (text_data (string_bytes c.label)) ++ (codes ",\"textEdit\":" ++ (compact_text (put_data range (string_bytes c.label)) ++ codes "}")))))
+    ≡ members_text false (last_members range c)
+unfolding serde_json_on_literals
+last_written range c = refl
+
+-- what can be written in place of a range
+pub completed : (range : Range) (c : Completion) (first second label edit : List ℕ) (kind : ℕ) → first ≡ optional_text (codes "detail") (string_bytes c.detail)
+    → second ≡ optional_text (codes "documentation") (string_bytes c.documentation) → kind ≡ completion_number c.kind → label ≡ compact_text (text_data (string_bytes c.label))
+    → edit ≡ compact_text (put_data range (string_bytes c.label))
+    → codes "{" ++ (first ++ (second ++ (codes "\"kind\":" ++ (decimal kind ++ (codes ",\"label\":" ++ (label ++ (codes ",\"textEdit\":" ++ (edit ++ codes "}"))))))))
+    ≡ compact_text (completion_data range c)
+completed range c first second label edit kind f s k l e =
+    let last = last_members range c in
+    let others = optional (codes "documentation") (string_bytes c.documentation) last in
+    let comma : HasComma last = refl in
+    ap (λ (t : List ℕ). 123 ∷ (t ++ (second ++ (codes "\"kind\":" ++ (decimal kind ++ (codes ",\"label\":" ++ (label ++ (codes ",\"textEdit\":" ++ (edit ++ codes "}"))))))))) f
+    ∙ ap (λ (t : List ℕ). 123 ∷ (optional_text (codes "detail") (string_bytes c.detail) ++ (t ++ (codes "\"kind\":" ++ (decimal kind ++ (codes ",\"label\":" ++ (label ++ (codes ",\"textEdit\":" ++ (edit ++ codes "}"))))))))) s
+    ∙ ap (λ (n : ℕ). 123 ∷ (optional_text (codes "detail") (string_bytes c.detail) ++ (optional_text (codes "documentation") (string_bytes c.documentation) ++ (codes "\"kind\":" ++ (decimal n ++ (codes ",\"label\":" ++ (label ++ (codes ",\"textEdit\":" ++ (edit ++ codes "}"))))))))) k
+    ∙ ap (λ (t : List ℕ). 123 ∷ (optional_text (codes "detail") (string_bytes c.detail) ++ (optional_text (codes "documentation") (string_bytes c.documentation) ++ (codes "\"kind\":" ++ (decimal (completion_number c.kind) ++ (codes ",\"label\":" ++ (t ++ (codes ",\"textEdit\":" ++ (edit ++ codes "}"))))))))) l
+    ∙ ap (λ (t : List ℕ). 123 ∷ (optional_text (codes "detail") (string_bytes c.detail) ++ (optional_text (codes "documentation") (string_bytes c.documentation) ++ (codes "\"kind\":" ++ (decimal (completion_number c.kind) ++ (codes ",\"label\":" ++ (compact_text (text_data (string_bytes c.label)) ++ (codes ",\"textEdit\":" ++ (t ++ codes "}"))))))))) e
+    ∙ ap (λ (t : List ℕ). 123 ∷ (optional_text (codes "detail") (string_bytes c.detail) ++ (optional_text (codes "documentation") (string_bytes c.documentation) ++ t))) (last_written range c)
+    ∙ ap (λ (t : List ℕ). 123 ∷ (optional_text (codes "detail") (string_bytes c.detail) ++ t)) (sym (with_optional (codes "documentation") (string_bytes c.documentation) last comma))
+    ∙ ap (λ (t : List ℕ). 123 ∷ t) (sym (with_optional (codes "detail") (string_bytes c.detail) others (comma_before (codes "documentation") (string_bytes c.documentation) last comma)))
