@@ -10,6 +10,8 @@ use Rattle.justfile_token.specs.declared.compile_error_kind.CompileErrorKind.{Co
 use Rattle.justfile_token.specs.declared.compile_error_kind.CompileErrorKind.TheVariants as kinds
 use Rattle.justfile_token.specs.declared.name.Name.{Name}
 use Rattle.justfile_token.specs.declared.namepath.Namepath.{Namepath}
+use Rattle.justfile_token.specs.Token.{lexeme_of}
+use Rattle.justfile_token.specs.declared.token.Token.{Token}
 use Rattle.justfile_problems.specs.declared.problem.Problem.{Problem}
 use Rattle.justfile_problems.specs.declared.problem.What.{What}
 use Rattle.justfile_problems.specs.declared.problem.What.TheVariants as whats
@@ -55,26 +57,31 @@ pub record Counts (found least most : ℕ) (text : List ℕ) (kind : CompileErro
   pub end : range_inclusive_end range ≡ most
   pub has : said.now ≡ text
 
--- the kind says what is wrong with a name
-abbrev pub Says : Name → What → CompileErrorKind → Type 0
-Says name (whats.DependencyCount found takes) = Leads (λ path. kinds.DependencyArgumentCountMismatch path found takes.least (most_of takes.most)) name
-Says name (whats.DuplicateDefault first) = Names kinds.DuplicateDefault (name_text name)
-Says name (whats.DuplicateFunctionParameter function first) = Pairs kinds.DuplicateFunctionParameter (name_text function) (name_text name)
-Says name (whats.DuplicateParameter recipe first) = Pairs kinds.DuplicateParameter (name_text recipe) (name_text name)
-Says name (whats.DuplicateSet first) = Names (λ text. kinds.DuplicateSet text first.token.line) (name_text name)
-Says name (whats.DuplicateUnexport first) = Names kinds.DuplicateUnexport (name_text name)
-Says name (whats.DuplicateVariable first) = Names kinds.DuplicateVariable (name_text name)
-Says name (whats.ExportUnexported first) = Names kinds.ExportUnexported (name_text name)
-Says name (whats.FunctionCount found takes) = Counts found takes.least (most_of takes.most) (name_text name)
-Says name (whats.IncompatibleSettings own other first) = λ kind. kind ≡ kinds.IncompatibleSettings other first.token.line own
-Says name (whats.Redefinition kind first_kind first) = Names (λ text. kinds.Redefinition first.token.line first_kind text kind) (name_text name)
-Says name (whats.RequiredParameter first) = Names kinds.RequiredParameterFollowsDefaultParameter (name_text name)
-Says name whats.UndefinedFunction = Names kinds.UndefinedFunction (name_text name)
-Says name whats.UndefinedVariable = Names kinds.UndefinedVariable (name_text name)
-Says name (whats.UnknownAliasTarget target) = Both kinds.UnknownAliasTarget (name_text name) target
-Says name (whats.UnknownDependency item) = Both kinds.UnknownDependency (name_text item) name
+-- the kind says what is wrong at a token
+abbrev pub Says : Token → What → CompileErrorKind → Type 0
+Says t (whats.DependencyCount name found takes) = Leads (λ path. kinds.DependencyArgumentCountMismatch path found takes.least (most_of takes.most)) name
+Says t (whats.DuplicateDefault first) = Names kinds.DuplicateDefault (lexeme_of t)
+Says t (whats.DuplicateFunctionParameter function first) = Pairs kinds.DuplicateFunctionParameter (name_text function) (lexeme_of t)
+Says t (whats.DuplicateParameter recipe first) = Pairs kinds.DuplicateParameter (name_text recipe) (lexeme_of t)
+Says t (whats.DuplicateSet first) = Names (λ text. kinds.DuplicateSet text first.token.line) (lexeme_of t)
+Says t (whats.DuplicateUnexport first) = Names kinds.DuplicateUnexport (lexeme_of t)
+Says t (whats.DuplicateVariable first) = Names kinds.DuplicateVariable (lexeme_of t)
+Says t (whats.ExportUnexported first) = Names kinds.ExportUnexported (lexeme_of t)
+Says t whats.ExtraLeadingWhitespace = λ kind. kind ≡ kinds.ExtraLeadingWhitespace
+Says t (whats.FunctionCount found takes) = Counts found takes.least (most_of takes.most) (lexeme_of t)
+Says t whats.GuardAndInfallibleSigil = λ kind. kind ≡ kinds.GuardAndInfallibleSigil
+Says t (whats.IncompatibleSettings own other first) = λ kind. kind ≡ kinds.IncompatibleSettings other first.token.line own
+Says t (whats.InvalidShellRecipeAttribute attribute) = Names (λ text. kinds.InvalidShellRecipeAttribute attribute text) (lexeme_of t)
+Says t (whats.ListFeature feature) = λ kind. kind ≡ kinds.ListFeature feature
+Says t whats.MappedDependency = λ kind. kind ≡ kinds.MappedDependencyWithoutListsSetting
+Says t (whats.Redefinition kind first_kind first) = Names (λ text. kinds.Redefinition first.token.line first_kind text kind) (lexeme_of t)
+Says t (whats.RequiredParameter first) = Names kinds.RequiredParameterFollowsDefaultParameter (lexeme_of t)
+Says t whats.UndefinedFunction = Names kinds.UndefinedFunction (lexeme_of t)
+Says t whats.UndefinedVariable = Names kinds.UndefinedVariable (lexeme_of t)
+Says t (whats.UnknownAliasTarget target) = Both kinds.UnknownAliasTarget (lexeme_of t) target
+Says t (whats.UnknownDependency item name) = Both kinds.UnknownDependency (name_text item) name
 
 -- the error of a problem
 pub record IsErrorOf (p : Problem) (error : CompileError) : Type 0 where
-  pub at : error.token ≡ p.name.token
-  pub says : Says p.name p.what error.kind
+  pub at : error.token ≡ p.token
+  pub says : Says p.token p.what error.kind

@@ -9,22 +9,32 @@ use Rattle.justfile_vocabulary.specs.Keyword.{keyword_text}
 use Rattle.justfile_vocabulary.specs.declared.item_kind.ItemKind.{ItemKind}
 use Rattle.justfile_vocabulary.specs.declared.item_kind.ItemKind.TheVariants as kinds
 use Rattle.justfile_vocabulary.specs.declared.keyword.Keyword.{Keyword}
+use Rattle.justfile_vocabulary.specs.declared.list_feature.ListFeature.{ListFeature}
+use Rattle.justfile_vocabulary.specs.ListFeature.{is_function}
 use Rattle.justfile_token.specs.Name.{name_text}
+use Rattle.justfile_token.specs.Token.{lexeme_of}
 use Rattle.justfile_token.specs.declared.name.Name.{Name}
+use Rattle.justfile_token.specs.declared.token.Token.{Token}
 use Rattle.justfile_problems.specs.declared.facts.Definition.{Definition}
 use Rattle.justfile_problems.specs.declared.facts.Role.{Role}
 use Rattle.justfile_problems.specs.declared.facts.Role.TheVariants as roles
 use Rattle.justfile_problems.specs.declared.facts.Rules.{Rules}
 use Rattle.justfile_problems.specs.declared.facts.Space.{Space}
 use Rattle.justfile_problems.specs.declared.facts.Space.TheVariants as spaces
+use Rattle.justfile_problems.specs.declared.facts.Suspect.{Suspect}
+use Rattle.justfile_problems.specs.declared.facts.SuspectKind.{SuspectKind}
+use Rattle.justfile_problems.specs.declared.facts.SuspectKind.TheVariants as suspects
 use Rattle.justfile_problems.specs.declared.facts.Use.{Use}
 use Rattle.justfile_problems.specs.declared.problem.Problem.{Problem}
 use Rattle.justfile_problems.specs.declared.problem.What.{What}
 use Rattle.justfile_problems.specs.declared.problem.What.TheVariants as whats
 use Rattle.justfile_problems.specs.Names.{first, scope_in, text_in}
 
+abbrev pub at_token : Token → What → Problem
+at_token token what = record { token = token; what = what }
+
 abbrev pub at : Name → What → Problem
-at name what = record { name = name; what = what }
+at name what = at_token name.token what
 
 abbrev pub offset_of : Name → ℕ
 offset_of name = name.token.offset
@@ -108,13 +118,13 @@ module _ (rules : Rules) where
 
   -- a dependency on an item of a kind
   abbrev pub depended_on : Use → ℕ → (hidden : Option Definition) → Definition → ItemKind → Option Problem
-  depended_on u found hidden d kinds.Recipe = counted hidden (fits d.takes found || recipes_repeat) (at u.name (whats.DependencyCount found d.takes))
+  depended_on u found hidden d kinds.Recipe = counted hidden (fits d.takes found || recipes_repeat) (at u.name (whats.DependencyCount u.name found d.takes))
   depended_on u found hidden d kinds.Alias = None
-  depended_on u found hidden d other = missing hidden (at u.name (whats.UnknownDependency u.item))
+  depended_on u found hidden d other = missing hidden (at u.name (whats.UnknownDependency u.item u.name))
 
   -- a dependency, beside the definition of its name
   abbrev pub depended : Use → ℕ → (hidden definition : Option Definition) → Option Problem
-  depended u found hidden None = missing hidden (at u.name (whats.UnknownDependency u.item))
+  depended u found hidden None = missing hidden (at u.name (whats.UnknownDependency u.item u.name))
   depended u found hidden (Some d) = depended_on u found hidden d d.kind
 
   -- the target of an alias that is an item of a kind
@@ -137,6 +147,10 @@ module _ (rules : Rules) where
   abbrev pub is_skipped : Use → Bool
   is_skipped u = u.commented && (rules.ignore_comments || rules.open)
 
+  -- whether a recipe may be run as a script, by a setting here or in another file
+  abbrev pub may_be_script : (shell : Bool) → Bool
+  may_be_script shell = not shell && (rules.default_script || rules.open)
+
 -- an assignment that is exported, beside what removes its name from the environment
 abbrev pub exported : Use → Option Definition → Option Problem
 exported u None = None
@@ -156,6 +170,10 @@ excluded u own other (Some f) = cond (is_before f.name u.name) (Some (at u.name 
 abbrev pub defined : (known : Space → (scope : ℕ) → (text : List ℕ) → Option Definition) → Space → Name → Option Definition
 defined known space name = known space 0 (name_text name)
 
+-- whether the file defines a function with the name that a token has
+abbrev pub has_function : (known : Space → (scope : ℕ) → (text : List ℕ) → Option Definition) → Token → Bool
+has_function known t = is_some (known spaces.Functions 0 (lexeme_of t))
+
 module _ (rules : Rules) (known : Space → (scope : ℕ) → (text : List ℕ) → Option Definition) where
   -- what is wrong with a use
   abbrev pub by_role : Use → Role → Option Problem
@@ -168,6 +186,22 @@ module _ (rules : Rules) (known : Space → (scope : ℕ) → (text : List ℕ) 
   by_role u (roles.Variable end) =
       cond (is_skipped rules u) None
       (valued rules u end (defined known spaces.HiddenVariables u.name) (known spaces.Parameters (offset_of u.item) (name_text u.name)) (defined known spaces.Variables u.name))
+
+  -- whether a feature may be used: by a setting here or in another file, or since it is a function of the file's own
+  abbrev pub is_allowed : Token → ListFeature → Bool
+  is_allowed t feature = rules.lists || (rules.open || (is_function feature && has_function known t))
+
+  -- what is wrong at a token that may be wrong in this way
+  abbrev pub by_kind : Token → SuspectKind → Option Problem
+  by_kind t (suspects.Blanks shell) = unless (may_be_script rules shell) (at_token t whats.ExtraLeadingWhitespace)
+  by_kind t (suspects.ListFeature feature) = unless (is_allowed t feature) (at_token t (whats.ListFeature feature))
+  by_kind t suspects.MappedDependency = unless (rules.lists || rules.open) (at_token t whats.MappedDependency)
+  by_kind t (suspects.ScriptAttribute attribute shell) = unless (may_be_script rules shell) (at_token t (whats.InvalidShellRecipeAttribute attribute))
+  by_kind t (suspects.Sigils shell) = unless (not rules.guards || may_be_script rules shell) (at_token t whats.GuardAndInfallibleSigil)
+
+  -- what is wrong with a suspect
+  abbrev pub suspect_problem : Suspect → Option Problem
+  suspect_problem s = by_kind s.token s.kind
 
   abbrev pub use_problem : Use → Option Problem
   use_problem u = by_role u u.role
@@ -182,6 +216,9 @@ module _ (rules : Rules) (known : Space → (scope : ℕ) → (text : List ℕ) 
   abbrev pub use_problems : List Use → List Problem
   use_problems us = flat_map (λ u. option_to_list (use_problem u)) us
 
+  abbrev pub suspect_problems : List Suspect → List Problem
+  suspect_problems ss = flat_map (λ s. option_to_list (suspect_problem s)) ss
+
 -- all that is wrong
-abbrev pub all_problems : Rules → List Definition → List Use → List Problem
-all_problems rules ds us = definition_problems rules (first ds) ds ++ use_problems rules (first ds) us
+abbrev pub all_problems : Rules → List Definition → List Use → List Suspect → List Problem
+all_problems rules ds us ss = definition_problems rules (first ds) ds ++ use_problems rules (first ds) us ++ suspect_problems rules (first ds) ss

@@ -115,13 +115,18 @@ pub(crate) fn depended<'src>(
 ) -> Option<Problem<'src>>
     ensures { result ≡ depended rules used.now found hidden.entry definition.entry }
 {
-    let unknown = at(used.name, What::UnknownDependency { item: used.item });
+    let what = What::UnknownDependency {
+        item: used.item,
+        unknown: used.name,
+    };
+    let unknown = at(used.name, what);
     match definition {
         None => missing(rules, hidden, unknown),
         Some(definition) => match definition.kind {
             ItemKind::Alias => None,
             ItemKind::Recipe => {
                 let what = What::DependencyCount {
+                    dependency: used.name,
                     found,
                     takes: definition.takes,
                 };

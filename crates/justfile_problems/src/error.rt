@@ -3,7 +3,7 @@ ghost use Rattle.std.specs.Prelude.{◌≡◌, IfOk};
 ghost use Rattle.justfile_problems.specs.Errors.{IsErrorOf, Says};
 
 use crate::problem::{Problem, What};
-use justfile_token::{CompileError, CompileErrorKind, Name, Namepath};
+use justfile_token::{CompileError, CompileErrorKind, Namepath, Token};
 use std::alloc::{AllocError, Global};
 
 impl<'src> Problem<'src> {
@@ -15,22 +15,26 @@ impl<'src> Problem<'src> {
     pub fn error(&self, alloc: Global) -> Result<CompileError<'src>, AllocError>
         ensures { IfOk result (λ error. IsErrorOf self.now error) }
     {
-        let kind = kind_of(alloc, self.name, self.what)?;
-        Ok(self.name.token.error(kind))
+        let kind = kind_of(alloc, self.token, self.what)?;
+        Ok(self.token.error(kind))
     }
 }
 
-/// Returns the kind of error at a name.
+/// Returns the kind of error at a token.
 fn kind_of<'src>(
     alloc: Global,
-    name: Name<'src>,
+    token: Token<'src>,
     what: What<'src>,
 ) -> Result<CompileErrorKind<'src>, AllocError>
-    ensures { IfOk result (λ kind. Says name.entry what.entry kind) }
+    ensures { IfOk result (λ kind. Says token.entry what.entry kind) }
 {
-    let text = name.lexeme();
+    let text = token.lexeme();
     match what {
-        What::DependencyCount { found, takes } => match Namepath::from_name(alloc, name) {
+        What::DependencyCount {
+            dependency,
+            found,
+            takes,
+        } => match Namepath::from_name(alloc, dependency) {
             Ok(dependency) => Ok(CompileErrorKind::DependencyArgumentCountMismatch {
                 dependency,
                 found,
@@ -61,6 +65,7 @@ fn kind_of<'src>(
             Ok(CompileErrorKind::DuplicateVariable { variable: text })
         }
         What::ExportUnexported { .. } => Ok(CompileErrorKind::ExportUnexported { variable: text }),
+        What::ExtraLeadingWhitespace => Ok(CompileErrorKind::ExtraLeadingWhitespace),
         What::FunctionCount { found, takes } => Ok(
             CompileErrorKind::FunctionArgumentCountMismatch {
                 arguments: found,
@@ -68,6 +73,7 @@ fn kind_of<'src>(
                 function: text,
             },
         ),
+        What::GuardAndInfallibleSigil => Ok(CompileErrorKind::GuardAndInfallibleSigil),
         What::IncompatibleSettings { own, other, first } => {
             Ok(CompileErrorKind::IncompatibleSettings {
                 first: other,
@@ -75,6 +81,14 @@ fn kind_of<'src>(
                 second: own,
             })
         }
+        What::InvalidShellRecipeAttribute { attribute } => {
+            Ok(CompileErrorKind::InvalidShellRecipeAttribute {
+                attribute,
+                recipe: text,
+            })
+        }
+        What::ListFeature(feature) => Ok(CompileErrorKind::ListFeature(feature)),
+        What::MappedDependency => Ok(CompileErrorKind::MappedDependencyWithoutListsSetting),
         What::Redefinition {
             kind,
             first_kind,
@@ -97,7 +111,7 @@ fn kind_of<'src>(
             }),
             Err(fault) => Err(fault),
         },
-        What::UnknownDependency { item } => match Namepath::from_name(alloc, name) {
+        What::UnknownDependency { item, unknown } => match Namepath::from_name(alloc, unknown) {
             Ok(unknown) => Ok(CompileErrorKind::UnknownDependency {
                 recipe: item.lexeme(),
                 unknown,

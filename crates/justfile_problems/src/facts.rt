@@ -1,7 +1,7 @@
 //! What a file says of names: where each is defined, and where it is used.
 use justfile_builtins::functions::Arguments;
-use justfile_token::Name;
-use justfile_vocabulary::{ItemKind, Keyword};
+use justfile_token::{Name, Token};
+use justfile_vocabulary::{AttributeKind, ItemKind, Keyword, ListFeature};
 
 /// A set of names, which an item has or the file. The names that the file may define are apart: those
 /// of items for other systems, and of modules whose files need not exist.
@@ -87,15 +87,53 @@ pub struct Use<'src> {
     pub commented: bool,
 }
 
+/// What is wrong at a place under some settings. `shell` is whether the recipe has the attribute
+/// `shell`, so that the setting `default-script` doesn't make it a script.
+#[derive(Clone, Copy, Debug, PartialEq, Eq)]
+pub enum SuspectKind {
+    /// A line begins with blanks behind the indentation, and doesn't continue another one.
+    Blanks {
+        shell: bool,
+    },
+    /// A feature that needs the setting `lists`.
+    ListFeature(ListFeature),
+    /// A starred dependency.
+    MappedDependency,
+    /// An attribute that is for scripts.
+    ScriptAttribute {
+        attribute: AttributeKind,
+        shell: bool,
+    },
+    /// A line has the sigils `?` and `-`, and doesn't continue another one.
+    Sigils {
+        shell: bool,
+    },
+}
+
+/// A place that is wrong under some settings.
+#[derive(Clone, Copy)]
+pub struct Suspect<'src> {
+    /// The token that is there.
+    pub token: Token<'src>,
+    /// What may be wrong.
+    pub kind: SuspectKind,
+}
+
 /// What a file allows.
 #[derive(Clone, Copy)]
 pub struct Rules {
+    /// Recipes with a body are run as scripts, unless they have the attribute `shell`.
+    pub default_script: bool,
     /// Recipes may be defined twice.
     pub duplicate_recipes: bool,
     /// Variables may be defined twice.
     pub duplicate_variables: bool,
+    /// `?` is a sigil.
+    pub guards: bool,
     /// Lines of bodies that begin with `#` are comments.
     pub ignore_comments: bool,
+    /// Values can be lists.
+    pub lists: bool,
     /// Other files may define names and set settings: the file imports one, or may be imported.
     pub open: bool,
 }

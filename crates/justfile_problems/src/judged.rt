@@ -1,16 +1,23 @@
 //! How a problem is made, and what a file allows.
 ghost use Rattle.std.specs.Prelude.{◌≡◌};
-ghost use Rattle.justfile_problems.specs.Problems.{at, recipes_repeat, unless};
+ghost use Rattle.justfile_problems.specs.Problems.{at, at_token, recipes_repeat, unless};
 
 use crate::facts::Rules;
 use crate::problem::{Problem, What};
-use justfile_token::Name;
+use justfile_token::{Name, Token};
 
 /// Returns the problem at a name.
 pub(crate) fn at<'src>(name: Name<'src>, what: What<'src>) -> Problem<'src>
     ensures { result ≡ at name.entry what.entry }
 {
-    Problem { name, what }
+    at_token(name.token, what)
+}
+
+/// Returns the problem at a token.
+pub(crate) fn at_token<'src>(token: Token<'src>, what: What<'src>) -> Problem<'src>
+    ensures { result ≡ at_token token.entry what.entry }
+{
+    Problem { token, what }
 }
 
 /// Returns the problem, unless there is a reason to be silent.

@@ -1,5 +1,5 @@
 //! What is wrong with the names of a file: defined twice, used and not defined, or used with a wrong
-//! number of arguments; and settings that exclude each other.
+//! number of arguments; settings that exclude each other, and what needs other settings.
 #![tactic(auto)]
 
 mod calls;
@@ -11,8 +11,9 @@ mod key;
 mod listing;
 mod names;
 mod problem;
+mod suspects;
 mod uses;
 
-pub use crate::facts::{Definition, Role, Rules, Space, Use};
+pub use crate::facts::{Definition, Role, Rules, Space, Suspect, SuspectKind, Use};
 pub use crate::listing::problems;
 pub use crate::problem::{Problem, What};

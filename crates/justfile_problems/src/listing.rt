@@ -2,16 +2,17 @@
 ghost use Rattle.std.specs.Prelude.{◌≡◌, ◌++◌, IfOk, IsPermutation, OnOk, option_to_list};
 ghost use Rattle.std.specs.List.Sorted.{IsNonDecreasingBy};
 ghost use Rattle.justfile_problems.specs.Names.{known};
-ghost use Rattle.justfile_problems.specs.Problems.{all_problems, definition_problems, use_problems};
+ghost use Rattle.justfile_problems.specs.Problems.{all_problems, definition_problems, suspect_problems, use_problems};
 
 use crate::definitions::definition_problem;
-use crate::facts::{Definition, Rules, Use};
+use crate::facts::{Definition, Rules, Suspect, Use};
 use crate::names::Names;
 use crate::problem::Problem;
+use crate::suspects::suspect_problem;
 use crate::uses::use_problem;
 use std::alloc::{AllocError, Global};
 
-/// Returns all that is wrong with the names of a file, in the order of the text.
+/// Returns all that is wrong with the names of a file and with its suspects, in the order of the text.
 ///
 /// # Errors
 ///
@@ -21,17 +22,19 @@ pub fn problems<'src>(
     rules: Rules,
     definitions: &[Definition<'src>],
     uses: &[Use<'src>],
+    suspects: &[Suspect<'src>],
 ) -> Result<Vec<Problem<'src>>, AllocError>
-    ensures all { IfOk result
-        (λ found. IsPermutation (all_problems rules definitions.now uses.now) found.items) }
+    ensures all { IfOk result (λ found. IsPermutation
+        (all_problems rules definitions.now uses.now suspects.now) found.items) }
     ensures in_order { IfOk result
-        (λ found. IsNonDecreasingBy (λ p. p.name.token.offset) found.items) }
+        (λ found. IsNonDecreasingBy (λ p. p.token.offset) found.items) }
 {
     let names = Names::of(alloc, definitions)?;
     let mut found = Vec::new(alloc);
     push_of_definitions(rules, &names, definitions, &mut found)?;
     push_of_uses(rules, &names, uses, &mut found)?;
-    found.sort_by_key(|problem| problem.name.token.offset)?;
+    push_of_suspects(rules, &names, suspects, &mut found)?;
+    found.sort_by_key(|problem| problem.token.offset)?;
     Ok(found)
 }
 
@@ -65,6 +68,23 @@ fn push_of_uses<'src>(
 {
     for used in uses {
         push(use_problem(rules, names, used), found)?;
+    }
+    Ok(())
+}
+
+/// Appends what is wrong with suspects.
+#[tactic(auto, using(std::proofs::lemmas::List::flat_map_more, std::proofs::lemmas::List::take_more))]
+fn push_of_suspects<'src>(
+    rules: Rules,
+    names: &Names<'src>,
+    suspects: &[Suspect<'src>],
+    found: &mut Vec<Problem<'src>>,
+) -> Result<(), AllocError>
+    ensures { OnOk result (found.new.items
+        ≡ found.old.items ++ suspect_problems rules (known names.now) suspects.now) }
+{
+    for suspect in suspects {
+        push(suspect_problem(rules, names, suspect), found)?;
     }
     Ok(())
 }

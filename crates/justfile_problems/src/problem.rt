@@ -1,13 +1,14 @@
 //! Problems: what is wrong, and where.
 use justfile_builtins::functions::Arguments;
-use justfile_token::Name;
-use justfile_vocabulary::{ItemKind, Keyword};
+use justfile_token::{Name, Token};
+use justfile_vocabulary::{AttributeKind, ItemKind, Keyword, ListFeature};
 
-/// What is wrong with a name.
+/// What is wrong with a name, or with another token.
 #[derive(Clone, Copy)]
 pub enum What<'src> {
     /// A dependency has a wrong number of arguments.
     DependencyCount {
+        dependency: Name<'src>,
         found: usize,
         takes: Arguments,
     },
@@ -41,17 +42,29 @@ pub enum What<'src> {
     ExportUnexported {
         first: Name<'src>,
     },
+    /// A line of a body begins with blanks behind the indentation.
+    ExtraLeadingWhitespace,
     /// A function is called with a wrong number of arguments.
     FunctionCount {
         found: usize,
         takes: Arguments,
     },
+    /// A line of a body has the sigils `?` and `-`.
+    GuardAndInfallibleSigil,
     /// An earlier setting excludes this one.
     IncompatibleSettings {
         own: Keyword,
         other: Keyword,
         first: Name<'src>,
     },
+    /// A recipe that isn't run as a script has an attribute for scripts.
+    InvalidShellRecipeAttribute {
+        attribute: AttributeKind,
+    },
+    /// What needs the setting `lists` stands in a file without it.
+    ListFeature(ListFeature),
+    /// A dependency is starred in a file without the setting `lists`.
+    MappedDependency,
     /// An earlier item has the name.
     Redefinition {
         kind: ItemKind,
@@ -73,14 +86,15 @@ pub enum What<'src> {
     /// A recipe depends on what isn't a recipe.
     UnknownDependency {
         item: Name<'src>,
+        unknown: Name<'src>,
     },
 }
 
 /// What is wrong, and where.
 #[derive(Clone, Copy)]
 pub struct Problem<'src> {
-    /// The name at which the error is.
-    pub name: Name<'src>,
+    /// The token at which the error is.
+    pub token: Token<'src>,
     /// What is wrong with it.
     pub what: What<'src>,
 }

@@ -56,3 +56,6 @@ returns-in-Ok-from_name c =
 pub returns-in-Ok-from_name-2 : goal.returns-in-Ok-from_name-2
 returns-in-Ok-from_name-2 c =
     rw c.in-UnknownDependency.is (record { said = c.lexeme-in-Ok-from_name-2.result; path = c.in-Ok-from_name-2.unknown; is = refl; has_text = search rules; has_path = search rules })
+
+pub returns-in-InvalidShellRecipeAttribute : goal.returns-in-InvalidShellRecipeAttribute
+returns-in-InvalidShellRecipeAttribute c = rw c.in-InvalidShellRecipeAttribute.is (record { said = c.lexeme-text.result; is = refl; has = search rules })
