@@ -4,15 +4,15 @@ use Rattle.std.specs.List.Sorted.{IsNonDecreasingBy}
 use Rattle.std.proofs.lemmas.List.{length-take-le, map_push, take_more}
 use Rattle.justfile_item.specs.declared.item.Item.{Item}
 use Rattle.justfile_references.proofs.Gathered.{mapped}
+use Rattle.justfile_references.specs.Defaults.{defaults_of}
 use Rattle.justfile_references.specs.References.{item_references}
+use Rattle.justfile_references.specs.declared.defaults.Defaults.{Defaults}
 use Rattle.justfile_references.specs.declared.reference.Reference.{Reference}
 use Rattle.justfile_token.specs.Token.{lexeme_of}
 use Rattle.justfile_token.specs.declared.token.Token.{Token}
 use Rattle.editor_language.specs.declared.mention.Mention.{Mention}
 use Rattle.editor_language.specs.declared.mention.Role.{Role}
-use Rattle.justfile_mentions.specs.Defaults.{defaults_of}
 use Rattle.justfile_mentions.specs.Mentions.{Adds, AreMentions, AreOfItem, Noted, meaning, mentions_by, noted, parameters_among, scope_of, to_note}
-use Rattle.justfile_mentions.specs.declared.defaults.Defaults.{Defaults}
 
 -- the mention that a reference is
 pub made : (index : ℕ) (defaults : Defaults) (parameters : List Token) (r : Reference) (role : Role) (name : List ℕ) (scope : Option ℕ) (start end : ℕ) (defines : Bool)

@@ -6,7 +6,9 @@ use Rattle.std.specs.Str.{bytes_eq}
 use Rattle.justfile_token.specs.Token.{lexeme_of}
 use Rattle.justfile_token.specs.declared.token.Token.{Token}
 use Rattle.justfile_item.specs.declared.item.Item.{Item}
+use Rattle.justfile_references.specs.Defaults.{defaults_of, is_in}
 use Rattle.justfile_references.specs.References.{item_references}
+use Rattle.justfile_references.specs.declared.defaults.Defaults.{Defaults}
 use Rattle.justfile_references.specs.declared.reference.Reference.{Reference}
 use Rattle.justfile_references.specs.declared.reference.Role as references
 use Rattle.justfile_references.specs.declared.reference.Role.TheVariants as named
@@ -14,8 +16,6 @@ use Rattle.editor_language.specs.declared.mention.Mention.{Mention}
 use Rattle.editor_language.specs.declared.mention.Role.{Role}
 use Rattle.editor_language.specs.declared.mention.Role.TheVariants as roles
 use Rattle.editor_language.specs.declared.parts.Span.{Span}
-use Rattle.justfile_mentions.specs.Defaults.{defaults_of, is_in}
-use Rattle.justfile_mentions.specs.declared.defaults.Defaults.{Defaults}
 
 -- what is known of a mention
 pub record Noted : Type 0 where

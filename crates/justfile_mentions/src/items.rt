@@ -2,11 +2,10 @@
 ghost use Rattle.std.specs.Prelude.{◌≡◌, ◌++◌, IfOk, OnOk, map};
 ghost use Rattle.justfile_mentions.specs.Mentions.{Adds, AreMentions, noted, scope_of, to_note};
 
-use crate::defaults::Defaults;
 use crate::meaning::{meaning, parameters_among};
 use editor_language::{Mention, Role, Span};
 use justfile_item::Item;
-use justfile_references::{Reference, references};
+use justfile_references::{Defaults, Reference, references};
 use justfile_token::Token;
 use std::alloc::{AllocError, Global};
 

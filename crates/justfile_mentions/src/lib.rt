@@ -2,7 +2,6 @@
 //! is.
 #![tactic(auto)]
 
-mod defaults;
 mod items;
 mod meaning;
 mod names;

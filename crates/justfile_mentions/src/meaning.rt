@@ -3,9 +3,8 @@ ghost use Rattle.std.specs.Prelude.{◌≡◌, IfOk};
 ghost use Rattle.std.specs.List.{list_any};
 ghost use Rattle.justfile_mentions.specs.Mentions.{defines_parameter, is_between, is_of_parameter, is_seen, meaning, names_parameter, parameters_among};
 
-use crate::defaults::Defaults;
 use editor_language::Role;
-use justfile_references::Reference;
+use justfile_references::{Defaults, Reference};
 use justfile_token::Token;
 use std::alloc::{AllocError, Global};
 

@@ -1,0 +1,7 @@
+use Rattle.std.proofs.Common.{◌≡◌, ◌++◌, take}
+use Rattle.std.specs.List.{flat_map}
+use Rattle.justfile_facts.specs.Suspects.{item_suspects}
+use Rattle.justfile_facts.proofs.suspects.push_suspects.Given as goal
+
+abbrev pub invariant-loop-item : goal.invariant-loop-item
+invariant-loop-item l = l.found.items ≡ l.fn.found.items ++ flat_map item_suspects (take l.item-index l.items)

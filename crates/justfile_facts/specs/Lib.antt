@@ -1,0 +1,6 @@
+pub mod Definitions
+pub mod Facts
+pub mod Rules
+pub mod Scopes
+pub mod Suspects
+pub mod Uses

@@ -1,0 +1,12 @@
+//! What the items of a file say: of each item by itself, what it defines, what it uses, and what is
+//! wrong under some settings.
+#![tactic(auto)]
+
+mod definitions;
+mod facts;
+mod rules;
+mod scopes;
+mod suspects;
+mod uses;
+
+pub use crate::facts::{Facts, facts_of};
