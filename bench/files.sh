@@ -80,6 +80,18 @@ see justfiles --help'
 run - < /dev/null; row '- is no file without --' "$status $(text -)" "0 $unformatted."
 run -- - -n.just; row 'after -- both are files' "$status $(text -)$(text -n.just)" "0 $formatted.$formatted."
 run --check --diff x; row 'two options' "$status" 3
+run --lint --check x; row 'two options, one of them --lint' "$status" 3
+mkdir linted; put linted/justfile 'a: b
+'; put linted/b.just 'a: b
+'; put linted/broken.just "$broken"
+run --lint linted/justfile; row '--lint tells of an unknown dependency' "$status $(sed 1q ../output)" '1 error: recipe `a` has unknown dependency `b`'
+run --lint linted/b.just; row 'but not in a file that others may import' "$status $(text ../output)" '0 .'
+run --lint linted/broken.just; row 'nor in one that is no justfile' "$status $(text ../output)" '2 .'
+run --lint linted; row 'a folder has the greatest status' "$status $(grep -c unknown ../output)" '2 1'
+(cd linted && justfiles --lint < /dev/null) > ../output; row 'without a file the justfile here is told of' "$? $(grep -c unknown ../output)" '1 1'
+row 'no file is changed' "$(text linted/justfile)" 'a: b
+.'
+rm -r linted
 rm -- -- - -n.just
 run; row 'no file, and no justfile here or above' "$status $(cat ../errors)" '3 error: no justfile found'
 mkdir -p below/below; put .JustFile "$unformatted"
@@ -107,6 +119,8 @@ stream() {
     printf '%s' "$1" > ../input; shift; justfiles "$@" < ../input > ../output 2> ../errors
     status=$?
 }
+stream 'a: b
+' --lint --name justfile -; row '--lint tells of standard input' "$status $(sed 1q ../output)" '1 error: recipe `a` has unknown dependency `b`'
 stream "$unformatted" -; row '- formats standard input' "$status $(text ../output)" "0 $formatted."
 stream "$formatted" -; row 'and writes what is formatted' "$status $(text ../output)" "0 $formatted."
 stream "$unformatted" --check --name a.just -; row '--check with a name' "$status $(cat ../output)" '1 a.just'

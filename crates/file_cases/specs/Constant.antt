@@ -1,5 +1,5 @@
--- A formatter for tests.
-use Rattle.std.specs.Prelude.{◌≡◌, ◌≢◌, ℕ, List, codes}
+-- A formatter and a linter for tests.
+use Rattle.std.specs.Prelude.{◌≡◌, ◌≢◌, ℕ, List, [], codes}
 use Rattle.std.specs.Str.{bytes_eq}
 use Rattle.std.proofs.Common.{ap, sym, true≢false, ◌∙◌}
 
@@ -10,6 +10,10 @@ pub record FormatsConstantly (source text : List ℕ) : Type 0 where
 
 abbrev pub RejectsBad : (name source lines : List ℕ) → Type 0
 RejectsBad name source lines = source ≡ codes "bad\n"
+
+-- Nothing is wrong with the formatted text.
+abbrev pub FindsOthers : (name source lines : List ℕ) → Type 0
+FindsOthers name source lines = source ≡ codes "formatted\n" → lines ≡ []
 
 pub one : (source text other : List ℕ) → FormatsConstantly source text → FormatsConstantly source other → text ≡ other
 one source text other f g = f.is ∙ sym g.is

@@ -13,7 +13,8 @@ mod writer;
 use far::far_diff;
 use folder::MemoryFolder;
 use formatter::Constant;
-use justfile_files::request::{Options, Request, misuse_lines, request_in};
+use justfile_files::lint::lint;
+use justfile_files::request::{Request, Subject, Task, misuse_lines, request_in};
 use justfile_files::run::run;
 use std::alloc::{AllocError, Global};
 use std::io;
@@ -66,6 +67,16 @@ static CASES: &[&str] = &[
     "--check --in-place a",
     "--in-place -",
     "--list --in-place --name n -",
+    "--lint",
+    "--lint a b c",
+    "--lint bad b missing",
+    "--lint b",
+    "--lint d",
+    "--lint bytes no\x1b",
+    "--lint -- -n",
+    "--lint --name n -",
+    "--lint --check a",
+    "--check --lint a",
 ];
 
 /// How many calls of each kind fail in turn.
@@ -95,11 +106,35 @@ fn words(alloc: Global, text: &str) -> Result<Vec<String>, AllocError> {
     Ok(words)
 }
 
-/// Runs a task, and writes its line.
-fn run_task(
+/// What is run.
+#[derive(Clone, Copy)]
+enum Work {
+    /// A task.
+    Task(Task),
+    /// What tells what is wrong.
+    Lint,
+}
+
+/// Runs the work over a folder, and returns the status.
+fn status_of(
+    alloc: Global,
+    work: Work,
+    names: &[String],
+    folder: &mut MemoryFolder,
+    output: &mut MemoryWriter,
+    errors: &mut MemoryWriter,
+) -> u8 {
+    match work {
+        Work::Task(task) => run(alloc, task, names, &Constant, folder, output, errors),
+        Work::Lint => lint(alloc, names, &Constant, folder, output, errors),
+    }
+}
+
+/// Runs the work, and writes its line.
+fn run_work(
     rt: &HostRuntime,
     case: &str,
-    options: Options,
+    work: Work,
     names: &[String],
     what: &str,
     faults: Faults,
@@ -108,15 +143,7 @@ fn run_task(
     let mut folder = MemoryFolder::new(alloc, faults)?;
     let mut output = MemoryWriter::new(alloc, faults.write);
     let mut errors = MemoryWriter::new(alloc, usize::MAX);
-    let status = run(
-        alloc,
-        options.task,
-        names,
-        &Constant,
-        &mut folder,
-        &mut output,
-        &mut errors,
-    );
+    let status = status_of(alloc, work, names, &mut folder, &mut output, &mut errors);
     let files = folder.text(alloc)?;
     println!(rt;
         "{case:?} {what} {status} {files} {:?} {:?}",
@@ -125,27 +152,22 @@ fn run_task(
     )
 }
 
-/// Runs a task without faults, and then with each fault.
-fn run_with_faults(
-    rt: &HostRuntime,
-    case: &str,
-    options: Options,
-    names: &[String],
-) -> io::Result<()> {
-    run_task(rt, case, options, names, "nothing", NONE)?;
+/// Runs the work without faults, and then with each fault.
+fn run_with_faults(rt: &HostRuntime, case: &str, work: Work, names: &[String]) -> io::Result<()> {
+    run_work(rt, case, work, names, "nothing", NONE)?;
     for call in 0..MOST_CALLS {
         let read = Faults { read: call, ..NONE };
-        run_task(rt, case, options, names, "read", read)?;
+        run_work(rt, case, work, names, "read", read)?;
         let replacement = Faults {
             replacement: call,
             ..NONE
         };
-        run_task(rt, case, options, names, "replacement", replacement)?;
+        run_work(rt, case, work, names, "replacement", replacement)?;
         let write = Faults {
             write: call,
             ..NONE
         };
-        run_task(rt, case, options, names, "write", write)?;
+        run_work(rt, case, work, names, "write", write)?;
     }
     Ok(())
 }
@@ -154,7 +176,10 @@ fn run_with_faults(
 fn run_case(rt: &HostRuntime, case: &str) -> io::Result<()> {
     let arguments = words(rt.alloc(), case)?;
     match request_in(&arguments) {
-        Ok(Request::Files(options, names)) => run_with_faults(rt, case, options, names),
+        Ok(Request::Files(options, names)) => {
+            run_with_faults(rt, case, Work::Task(options.task), names)
+        }
+        Ok(Request::Lint(Subject::Files(names))) => run_with_faults(rt, case, Work::Lint, names),
         Ok(request) => println!(rt; "{case:?} {request:?}"),
         Err(misuse) => {
             let lines = misuse_lines(rt.alloc(), misuse)?;

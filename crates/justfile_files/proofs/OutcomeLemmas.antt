@@ -19,11 +19,11 @@ use Rattle.std.proofs.Common.{Global}
 use Rattle.std.specs.declared.alloc.AllocError.{AllocError}
 use Rattle.std.specs.declared.io.Error.{Error}
 
-greatest-push : (xs : List ℕ) (y : ℕ) → greatest (xs ++ y ∷ []) ≡ max (greatest xs) y
+pub greatest-push : (xs : List ℕ) (y : ℕ) → greatest (xs ++ y ∷ []) ≡ max (greatest xs) y
 greatest-push [] y = omega arith
 greatest-push (x ∷ xs) y = ap (max x) (greatest-push xs y) ∙ omega arith
 
-each_push : {A B : Type 0} (P Q : A → B → Type 0) (xs : List A) (ys : List B) (x : A) (y : B) → ((a : A) (b : B) → P a b → Q a b) → AllZip P xs ys → Q x y
+pub each_push : {A B : Type 0} (P Q : A → B → Type 0) (xs : List A) (ys : List B) (x : A) (y : B) → ((a : A) (b : B) → P a b → Q a b) → AllZip P xs ys → Q x y
     → AllZip Q (xs ++ x ∷ []) (ys ++ y ∷ [])
 each_push P Q [] [] x y f h q = (q, tt)
 each_push P Q [] (b ∷ ys) x y f h q = absurd h
@@ -37,11 +37,11 @@ texts_more {A} words i word name l e n =
     ∙ sym (ap (λ (ws : List (String A)). texts ws) (take_more words i word l) ∙ map-append (λ (s : String A). string_bytes s) (take i words) (get_or words i word ∷ []))
 
 -- steps, one after the other
-folds_both : {P A : Type 0} (R : P → A → P → Type 0) (p q r : P) (xs ys : List A) → FoldsTo R p xs q → FoldsTo R q ys r → FoldsTo R p (xs ++ ys) r
+pub folds_both : {P A : Type 0} (R : P → A → P → Type 0) (p q r : P) (xs ys : List A) → FoldsTo R p xs q → FoldsTo R q ys r → FoldsTo R p (xs ++ ys) r
 folds_both R p q r [] ys h k = subst (λ x. FoldsTo R x ys r) (sym h) k
 folds_both R p q r (x ∷ xs) ys h k = (h.0, h.1, folds_both R h.0 q r xs ys h.2 k)
 
-flat_map-push : {A B : Type 0} (f : A → List B) (xs : List A) (x : A) → flat_map f (xs ++ x ∷ []) ≡ flat_map f xs ++ f x
+pub flat_map-push : {A B : Type 0} (f : A → List B) (xs : List A) (x : A) → flat_map f (xs ++ x ∷ []) ≡ flat_map f xs ++ f x
 flat_map-push f xs x = flat_map-append f xs (x ∷ []) ∙ ap (λ l. flat_map f xs ++ l) (append-nil (f x))
 
 -- ---- failures

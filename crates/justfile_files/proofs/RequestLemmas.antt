@@ -1,6 +1,14 @@
 -- Words that begin with `-`.
 use Rattle.std.proofs.Common.{◌≡◌, ◌+◌, ◌<◌, ℕ, zero, suc, Bool, true, false, List, [], ◌∷◌, length, take, get_or, Option, None, Some, String, string_bytes, if◌then◌else◌, refl, sym, ap, ◌∙◌, arith, add-one}
-use Rattle.justfile_files.specs.Request.{first_option, is_option, texts}
+use Rattle.justfile_files.specs.Request.{Asked, first_option, is_option, linted, misused, texts}
+
+same_misuse : (word : Option (List ℕ)) → linted (misused word) ≡ misused word
+same_misuse None = refl
+same_misuse (Some word) = refl
+
+-- what is misused stays so
+pub linted_misuse : (word : Option (List ℕ)) (asked : Asked) → misused word ≡ asked → misused word ≡ linted asked
+linted_misuse word asked e = sym (same_misuse word) ∙ ap linted e
 
 -- the word before the others, if it is an option
 skips : {A : Type 0} (b : Bool) (x : A) (rest : Option A) → (if b then Some x else rest) ≡ None → (b ≡ false) × (rest ≡ None)

@@ -3,6 +3,7 @@ pub mod FileResult
 pub mod Folder
 pub mod Formatter
 pub mod Found
+pub mod Lint
 pub mod Outcome
 pub mod Output
 pub mod Request

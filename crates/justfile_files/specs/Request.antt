@@ -9,6 +9,8 @@ use Rattle.justfile_files.specs.declared.request.Misuse.TheVariants as misuses
 use Rattle.justfile_files.specs.declared.request.Options.{Options}
 use Rattle.justfile_files.specs.declared.request.Request.{Request}
 use Rattle.justfile_files.specs.declared.request.Request.TheVariants as requests
+use Rattle.justfile_files.specs.declared.request.Subject.{Subject}
+use Rattle.justfile_files.specs.declared.request.Subject.TheVariants as subjects
 use Rattle.justfile_files.specs.declared.request.Task.{Task}
 use Rattle.justfile_files.specs.declared.request.Task.TheVariants.{Check, Diff, Format, FormatAndName}
 use Rattle.justfile_files.specs.declared.request.TheConstants.{NAME}
@@ -33,6 +35,9 @@ pub data Asked : Type 0 where
   files : (options : Options) (names : List (List ℕ)) → Asked
   nearest : (options : Options) → Asked
   stream : (task : Task) (name : List ℕ) → Asked
+  lint_files : (names : List (List ℕ)) → Asked
+  lint_nearest : Asked
+  lint_stream : (name : List ℕ) → Asked
   unexpected : (word : List ℕ) → Asked
   incomplete : Asked
 
@@ -119,15 +124,28 @@ subject_of options (word ∷ words) =
     else if bytes_eq word (codes "--name") then named options words
     else names_of (first_option (word ∷ words)) options (word ∷ words)
 
+-- what is asked for with what is wrong in place of a task
+abbrev pub linted : Asked → Asked
+linted (files options names) = lint_files names
+linted (nearest options) = lint_nearest
+linted (stream task name) = lint_stream name
+linted other = other
+
 abbrev pub request_of : List (List ℕ) → Asked
 request_of [] = nearest (replacing Format)
 request_of (word ∷ words) =
     if bytes_eq word (codes "--help") || bytes_eq word (codes "-h") then help
     else if bytes_eq word (codes "--version") || bytes_eq word (codes "-V") then version
+    else if bytes_eq word (codes "--lint") then linted (subject_of (replacing Check) words)
     else subject_of (options_of (word ∷ words)).0 (options_of (word ∷ words)).1
 
 abbrev pub shown_option : Option (Bor (List ℕ)) → Option (List ℕ)
 shown_option option = option_map (λ o. o.now) option
+
+abbrev pub asked_of : Subject → Asked
+asked_of (subjects.Files names) = lint_files (texts names.now)
+asked_of subjects.Nearest = lint_nearest
+asked_of (subjects.Stream name) = lint_stream name.now
 
 abbrev pub asked : Request → Asked
 asked requests.Help = help
@@ -135,6 +153,7 @@ asked requests.Version = version
 asked (requests.Files options names) = files options (texts names.now)
 asked (requests.Nearest options) = nearest options
 asked (requests.Stream task name) = stream task name.now
+asked (requests.Lint subject) = asked_of subject
 
 -- the argument that doesn't fit, if none is missing
 abbrev pub shown_misuse : Misuse → Option (List ℕ)

@@ -1,5 +1,5 @@
-//! Formats the files of a folder, or tells which of them aren't formatted, or what formatting would
-//! change.
+//! Formats the files of a folder, or tells which of them aren't formatted, what formatting would
+//! change, or what is wrong with them.
 #![tactic(auto)]
 
 mod failure;
@@ -8,6 +8,8 @@ pub mod folder;
 pub mod formatter;
 mod found;
 pub mod help;
+pub mod lint;
+pub mod linter;
 pub mod messages;
 pub mod output;
 mod place;

@@ -1,6 +1,7 @@
 //! What the arguments ask for.
 ghost use Rattle.std.specs.Prelude.{◌≡◌, IfOk, Some, string_bytes};
-ghost use Rattle.justfile_files.specs.Request.{after_in_place, after_list, changes_files, first_option, fits_stream, given_names, in_place, is_option, misuse_lines, named, names_of, options_of, replacing, request_of, shown_misuse, shown_option, shown_request, stream_of, subject_of, texts, what_is_wrong, without};
+ghost use Rattle.justfile_files.specs.declared.request.Task.TheVariants.{Check};
+ghost use Rattle.justfile_files.specs.Request.{after_in_place, after_list, asked, changes_files, first_option, fits_stream, given_names, in_place, is_option, linted, misuse_lines, named, names_of, options_of, replacing, request_of, shown_misuse, shown_option, shown_request, stream_of, subject_of, texts, what_is_wrong, without};
 
 use crate::visible::visible_name;
 use std::alloc::{AllocError, Global};
@@ -50,6 +51,19 @@ pub enum Request<'a> {
     Nearest(Options),
     /// The task with standard input, which has this name in messages.
     Stream(Task, &'a str),
+    /// What is wrong with texts.
+    Lint(Subject<'a>),
+}
+
+/// The texts of which it is asked what is wrong with them.
+#[derive(Clone, Copy, Debug)]
+pub enum Subject<'a> {
+    /// The files and folders of these names. There is at least one.
+    Files(&'a [String]),
+    /// The justfile that `just` would find.
+    Nearest,
+    /// Standard input, which has this name in messages.
+    Stream(&'a str),
 }
 
 /// Why arguments ask for nothing.
@@ -77,8 +91,8 @@ impl Task {
 
 /// Returns what the arguments ask for, which have one of the forms `--help`, `--version`,
 /// `OPTIONS NAME..`, `OPTIONS -- NAME..`, `OPTIONS` and `OPTIONS [--name FILE] -`. The options are
-/// `--check`, `--diff`, `--list` or `--in-place`, or `--list` and one of `--check` and `--in-place`.
-/// A name that begins with `-` comes after `--`.
+/// `--check`, `--diff`, `--lint`, `--list` or `--in-place`, or `--list` and one of `--check` and
+/// `--in-place`. A name that begins with `-` comes after `--`.
 ///
 /// # Errors
 ///
@@ -86,7 +100,7 @@ impl Task {
 pub fn request_in(arguments: &[String]) -> Result<Request<'_>, Misuse<'_>>
     ensures { shown_request result ≡ request_of (texts arguments.now) }
 {
-    let [first, ..] = arguments else {
+    let [first, rest @ ..] = arguments else {
         return Ok(Request::Nearest(replacing(Task::Format)));
     };
     if first.as_str() == "--help" || first.as_str() == "-h" {
@@ -95,8 +109,37 @@ pub fn request_in(arguments: &[String]) -> Result<Request<'_>, Misuse<'_>>
     if first.as_str() == "--version" || first.as_str() == "-V" {
         return Ok(Request::Version);
     }
+    if first.as_str() == "--lint" {
+        return lint_in(rest);
+    }
     let (options, words) = options_in(arguments);
     subject_in(options, words)
+}
+
+/// Returns what the words after `--lint` ask for: what they would ask for after `--check`, with what
+/// is wrong in place of the task.
+#[tactic(auto, using(crate::proofs::RequestLemmas::linted_misuse))]
+fn lint_in(words: &[String]) -> Result<Request<'_>, Misuse<'_>>
+    ensures { shown_request result ≡ linted (subject_of (replacing Check) (texts words.now)) }
+{
+    match subject_in(replacing(Task::Check), words) {
+        Ok(request) => Ok(linted(request)),
+        Err(misuse) => Err(misuse),
+    }
+}
+
+/// Returns the request for what is wrong, in place of one for a task.
+fn linted(request: Request<'_>) -> Request<'_>
+    ensures { asked result ≡ linted (asked request.entry) }
+{
+    match request {
+        Request::Files(_, names) => Request::Lint(Subject::Files(names)),
+        Request::Nearest(_) => Request::Lint(Subject::Nearest),
+        Request::Stream(_, name) => Request::Lint(Subject::Stream(name)),
+        Request::Help => Request::Help,
+        Request::Version => Request::Version,
+        Request::Lint(subject) => Request::Lint(subject),
+    }
 }
 
 /// Returns the options to do a task by replacing files, if it changes any.

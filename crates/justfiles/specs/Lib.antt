@@ -1,2 +1,3 @@
 pub mod Justfile
 pub mod Laws
+pub mod Linted

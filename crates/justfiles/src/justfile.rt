@@ -1,18 +1,22 @@
-//! Justfiles as texts that can be formatted.
-ghost use Rattle.std.specs.Prelude.{IfOk, string_bytes};
+//! Justfiles as texts that can be formatted, and in which something may be wrong.
+ghost use Rattle.std.specs.Prelude.{◌≡◌, IfErr, IfOk, string_bytes};
+ghost use Rattle.justfile_files.specs.Formatter.{IsExhausted};
+ghost use Rattle.justfile_files.specs.Visible.{visible_lines};
 ghost use Rattle.justfile_canonical.specs.declared.fault.FormatFault.TheVariants as faults;
 ghost use Rattle.justfile_canonical.specs.Formatting.{IsFormatted};
 ghost use Rattle.justfile_canonical.proofs.Formatted as formatted;
-ghost use Rattle.justfiles.specs.Justfile.{IsRefusalOf, IsRejected, IsShownRefusal, TellsReturn};
+ghost use Rattle.justfiles.specs.Justfile.{FindsShown, IsRefusalOf, IsRejected, IsShownRefusal, TellsReturn};
 ghost use Rattle.justfiles.specs.Laws.{never_both};
 
+use crate::linted::lint_text;
 use crate::returned::returned_excerpt;
 use justfile_files::formatter::{Formatter, Refusal};
+use justfile_files::linter::Linter;
 use justfile_files::visible::visible_lines;
 use justfile_syntax::format::{FormatFault, format_text};
 use std::alloc::{AllocError, Global};
 
-/// Formats justfiles.
+/// Formats justfiles, and finds what is wrong with them.
 pub struct Justfile;
 
 impl Formatter for Justfile {
@@ -32,6 +36,31 @@ impl Formatter for Justfile {
             Ok(text) => Ok(text),
             Err(fault) => Err(refusal(alloc, name, source, fault)),
         }
+    }
+}
+
+impl Linter for Justfile {
+    ghost finds = { FindsShown };
+
+    ghost rejects = { IsRejected };
+
+    #[tactic(auto, using(crate::proofs::Refusals::refused))]
+    fn lint(&self, alloc: Global, name: &str, source: &str) -> Result<String, Refusal> {
+        match lint_text(alloc, name, source) {
+            Ok(lines) => shown_lines(alloc, lines.as_str()),
+            Err(fault) => Err(refusal(alloc, name, source, fault)),
+        }
+    }
+}
+
+/// Returns lines as they are shown.
+fn shown_lines(alloc: Global, lines: &str) -> Result<String, Refusal>
+    ensures ok { IfOk result (λ shown. string_bytes shown ≡ visible_lines lines.now) }
+    ensures err { IfErr result IsExhausted }
+{
+    match visible_lines(alloc, lines) {
+        Ok(shown) => Ok(shown),
+        Err(_) => Err(Refusal::Exhausted("out of memory")),
     }
 }
 

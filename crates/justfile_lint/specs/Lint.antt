@@ -1,0 +1,16 @@
+-- What is wrong with a justfile.
+use Rattle.std.specs.Prelude.{◌++◌, Bool, List}
+use Rattle.std.specs.List.{flat_map}
+use Rattle.justfile_problems.specs.Problems.{all_problems}
+use Rattle.justfile_problems.specs.declared.problem.Problem.{Problem}
+use Rattle.justfile_ast.specs.declared.ast.Ast.{Ast}
+use Rattle.justfile_facts.specs.Definitions.{item_definitions}
+use Rattle.justfile_facts.specs.Rules.{rules_of}
+use Rattle.justfile_facts.specs.Suspects.{item_suspects, noted}
+use Rattle.justfile_facts.specs.Uses.{item_uses}
+
+-- all that is wrong with a file; `imported` is whether another file may import it
+abbrev pub problems_of : (imported : Bool) → Ast → List Problem
+problems_of imported ast =
+    let items = ast.items.items in
+    all_problems (rules_of imported items) (flat_map item_definitions items) (flat_map item_uses items) (flat_map item_suspects items ++ flat_map noted ast.list_features.items)

@@ -1,0 +1,36 @@
+//! The problems of a file.
+ghost use Rattle.std.specs.Prelude.{IfOk, IsPermutation};
+ghost use Rattle.std.specs.List.Sorted.{IsNonDecreasingBy};
+ghost use Rattle.justfile_lint.specs.Lint.{problems_of};
+
+use justfile_ast::Ast;
+use justfile_facts::facts_of;
+use justfile_problems::{Problem, problems};
+use std::alloc::{AllocError, Global};
+
+/// Returns all that is wrong with a file, in the order of the text. `imported` is
+/// whether another file may import it: then names that it lacks aren't wrong. The file is passed as
+/// `&mut`, and isn't changed (`docs/LIBRARY.md`, "What a check of a caller takes").
+///
+/// # Errors
+///
+/// `AllocError` if memory runs out.
+pub fn lint<'src>(
+    ast: &mut Ast<'src>,
+    imported: bool,
+    alloc: Global,
+) -> Result<Vec<Problem<'src>>, AllocError>
+    ensures all { IfOk result
+        (λ found. IsPermutation (problems_of imported ast.old) found.items) }
+    ensures in_order { IfOk result
+        (λ found. IsNonDecreasingBy (λ p. p.token.offset) found.items) }
+{
+    let facts = facts_of(&ast.items, &ast.list_features, imported, alloc)?;
+    problems(
+        alloc,
+        facts.rules,
+        &facts.definitions,
+        &facts.uses,
+        &facts.suspects,
+    )
+}

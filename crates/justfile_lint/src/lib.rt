@@ -1,0 +1,8 @@
+//! What is wrong with the names of a justfile.
+#![tactic(auto)]
+
+mod file;
+mod name;
+
+pub use crate::file::lint;
+pub use crate::name::may_be_imported;
