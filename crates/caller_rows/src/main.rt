@@ -1,10 +1,11 @@
 //! Runs rows of data about what is built on the library: the program `justfmt`, callers, surveys,
-//! and attributes and interpreters that are made. `docs/ROWS.md` has the notation and the words, and
-//! what the program prints and returns.
+//! problems with names, and attributes and interpreters that are made. `docs/ROWS.md` has the
+//! notation and the words, and what the program prints and returns.
 #![tactic(auto)]
 
 mod callers;
 mod interpreters;
+mod lints;
 mod made;
 mod program;
 mod surveys;

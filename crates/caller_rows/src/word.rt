@@ -2,6 +2,7 @@
 
 use crate::callers::{fault_lines, formats_at, in_parts, item_count, variables};
 use crate::interpreters::{push_default, push_interpreter};
+use crate::lints::lints;
 use crate::made::{makes, makes_keyed};
 use crate::program::{breaks_each, formats, runs};
 use crate::surveys::surveys;
@@ -31,6 +32,9 @@ pub(crate) enum Word {
     Interpreter,
     /// T: what a query answers.
     ItemCount,
+    /// `root`, or `imported` if another file may import the text; the text: of each problem with its
+    /// names the offset and the message of its error.
+    Lints,
     /// Number, names: the attribute with the first name, the others as keys, and this number of
     /// arguments.
     Makes,
@@ -60,6 +64,7 @@ static WORDS: &[(&str, Word, usize)] = &[
     ("in_parts", Word::InParts, 2),
     ("interpreter", Word::Interpreter, 1),
     ("item_count", Word::ItemCount, 1),
+    ("lints", Word::Lints, 2),
     ("makes", Word::Makes, 2),
     ("makes_keyed", Word::MakesKeyed, 2),
     ("run", Word::Run, 2),
@@ -90,6 +95,7 @@ impl RowWord for Word {
             Word::FaultLines => matches!(first, "list" | "memory" | "numbers"),
             Word::FormatsAt => is_indentation(fields, 0),
             Word::InParts | Word::Makes => is_number(fields, 0),
+            Word::Lints => matches!(first, "imported" | "root"),
             _ => true,
         }
     }
@@ -109,6 +115,7 @@ impl RowWord for Word {
             Word::InParts => in_parts(answer, fields),
             Word::Interpreter => push_interpreter(answer, text),
             Word::ItemCount => item_count(answer, text),
+            Word::Lints => lints(answer, fields),
             Word::Makes => makes(answer, fields),
             Word::MakesKeyed => makes_keyed(answer, fields),
             Word::ScriptInterpreter => push_default(answer),
