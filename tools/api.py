@@ -24,8 +24,8 @@ TARGET = TOP / "docs/API.md"
 
 # The crates that callers name beside `justfile_syntax`, in the order of docs/LIBRARY.md.
 FOR_CALLERS = """
-    justfile_survey justfile_references justfile_mentions justfile_builtins justfile_problems justfile_lines text_edits
-    message_stream line_diff
+    justfile_survey justfile_references justfile_mentions justfile_builtins justfile_lint justfile_facts justfile_problems
+    justfile_problem_lines justfile_lines text_edits message_stream line_diff circles
 """.split()
 # Traits whose impls tell a caller nothing, or are told by the head of the page.
 COMMON_TRAITS = {"Drop", "TryClone", "WriteTo", "Model"}

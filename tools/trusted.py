@@ -150,7 +150,11 @@ GROUPS = [
     ],
     [("justfile_files/src/run.rt", ["run"]), ("line_diff/src/unified.rt", ["unified_diff"])],
     [("justfile_c/src/lib.rt", ["justfile_format"])],
-    [("justfile_problems/src/listing.rt", ["problems"]), ("justfile_problems/src/error.rt", ["error"])],
+    [
+        ("justfile_lint/src/file.rt", ["lint"]),
+        ("justfile_problems/src/listing.rt", ["problems"]),
+        ("justfile_problems/src/error.rt", ["error"]),
+    ],
 ]
 
 
