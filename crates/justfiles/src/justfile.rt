@@ -44,7 +44,7 @@ impl Linter for Justfile {
 
     ghost rejects = { IsRejected };
 
-    #[tactic(auto, using(crate::proofs::Refusals::refused))]
+    #[tactic(auto, using(crate::proofs::Refusals::refused, crate::proofs::Told::shown_found, crate::proofs::Told::unshown))]
     fn lint(&self, alloc: Global, name: &str, source: &str) -> Result<String, Refusal> {
         match lint_text(alloc, name, source) {
             Ok(lines) => shown_lines(alloc, lines.as_str()),
