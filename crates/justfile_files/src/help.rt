@@ -12,7 +12,7 @@ without an option  formats the files: a new one takes the place of each that it 
 --in-place         writes into the files themselves, which keep their access lists and attributes
 --check            writes the name of each file that isn't formatted
 --diff             writes what formatting would change, as `patch -p0` takes it
---lint             writes what `just` would reject in each file that parses
+--lint             writes what is wrong with names and settings in each file
 --name FILE        the name of standard input in messages
 -h, --help         writes this text
 -V, --version      writes the version
@@ -22,5 +22,5 @@ any case, but for `.git`, links and mounts. Without a FILE or FOLDER it takes th
 `just` would find, and for - standard input, whose formatted text it writes to standard output.
 Names that begin with - come after --. With --check, --list changes nothing; --in-place goes with
 --list or alone. The status is 0 if all files are formatted, 1 if one isn't, 2 if one is no justfile,
-and 3 if anything else fails; with --lint 1 if `just` would reject one that parses.
+and 3 if anything else fails; with --lint 1 if anything is wrong with one.
 ";

@@ -8,9 +8,9 @@ use justfile_facts::facts_of;
 use justfile_problems::{Problem, problems};
 use std::alloc::{AllocError, Global};
 
-/// Returns all that is wrong with a file, in the order of the text. `imported` is
-/// whether another file may import it: then names that it lacks aren't wrong. The file is passed as
-/// `&mut`, and isn't changed (`docs/LIBRARY.md`, "What a check of a caller takes").
+/// Returns the problems of a file, in the order of the text. `imported` is whether another file may
+/// import it: then names that it lacks aren't wrong. The file is passed as `&mut`, and isn't changed
+/// (`docs/LIBRARY.md`, "What a check of a caller takes").
 ///
 /// # Errors
 ///

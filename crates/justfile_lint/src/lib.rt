@@ -1,4 +1,4 @@
-//! What is wrong with the names of a justfile.
+//! What is wrong with the names and the settings of a justfile.
 #![tactic(auto)]
 
 mod file;
