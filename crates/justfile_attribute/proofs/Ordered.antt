@@ -21,7 +21,7 @@ use Rattle.justfile_model.specs.Trees.ContentKeys.{attribute_key, attribute_keys
 use Rattle.justfile_model.specs.Trees.ContentKeys as keys
 use Rattle.justfile_model.specs.Trees.ContentLeaf as contents
 use Rattle.justfile_model.specs.Trees.ContentLeaf.{ContentLeaf, content_cmp}
-use Rattle.justfile_model.specs.Trees.Key.{Key, keys_cmp, leaf, node, end, next, row, keys_of, option_key, present_key}
+use Rattle.justfile_model.specs.Trees.Key.{Key, keys_cmp, leaf, node, end, next, sequence, keys_of, option_key, present_key}
 use Rattle.justfile_model.specs.Trees.Tree.{Expr, Quoted}
 use Rattle.justfile_expression.specs.Content.{expression_content_cmp}
 use Rattle.justfile_leaves.specs.LeafContent.{token_content}
@@ -127,12 +127,12 @@ fields_are (attributes.Doc None) h = refl
 fields_are (attributes.Doc (Some e)) h = refl
 fields_are (attributes.Extension l) h = λ i. next (literal_is l i) end
 fields_are (attributes.Group l) h = λ i. next (literal_is l i) end
-fields_are (attributes.Metadata ls) h = λ i. next (row (literals_are ls.items i)) end
+fields_are (attributes.Metadata ls) h = λ i. next (sequence (literals_are ls.items i)) end
 fields_are (attributes.Timestamp None) h = refl
 fields_are (attributes.Timestamp (Some e)) h = refl
 fields_are (attributes.Script None) h = refl
 fields_are (attributes.Script (Some interpreter)) h = λ i.
-    next (present_key (row (next (literal_is interpreter.command i) (next (row (literals_are interpreter.arguments.items i)) end)))) end
+    next (present_key (sequence (next (literal_is interpreter.command i) (next (sequence (literals_are interpreter.arguments.items i)) end)))) end
 fields_are _ h = refl
 
 -- the key of an attribute with right derived fields is that of its tree

@@ -6,7 +6,7 @@ use Rattle.justfile_token.specs.declared.name.Name.{Name}
 use Rattle.justfile_vocabulary.specs.contracts.attribute_kind.AttributeKind.{the_type}
 use Rattle.justfile_vocabulary.specs.declared.attribute_kind.AttributeKind.TheVariants as kinds
 use Rattle.justfile_numbers.specs.declared.number.Number.{Number}
-use Rattle.justfile_model.specs.Trees.Key.{node, end, next, row, option_key, present_key}
+use Rattle.justfile_model.specs.Trees.Key.{node, end, next, sequence, option_key, present_key}
 use Rattle.justfile_expression.specs.Resolved.{IsResolved, IsResolvedOption}
 use Rattle.justfile_expression.specs.declared.expression.Expression.{Expression}
 use Rattle.justfile_expression.proofs.ResolvedKeys.{kept_key}
@@ -28,7 +28,7 @@ module _ (numbers : (name : List ℕ) → Option Number) where
   kept_property : (resolved original : Option (Name × Box Expression)) → IsResolvedProperty numbers resolved original
       → option_key property_key resolved ≡ option_key property_key original
   kept_property None None is = refl
-  kept_property (Some resolved) (Some original) is = λ i. present_key (row (next (name_key (is.0 i)) (next (kept_boxed resolved.1 original.1 is.1 i) end)))
+  kept_property (Some resolved) (Some original) is = λ i. present_key (sequence (next (name_key (is.0 i)) (next (kept_boxed resolved.1 original.1 is.1 i) end)))
   kept_property None (Some original) is = absurd is
   kept_property (Some resolved) None is = absurd is
 

@@ -11,7 +11,7 @@ use Rattle.justfile_token.specs.declared.token.Token.{Token}
 use Rattle.justfile_model.specs.Trees.ContentKeys.{expr_key}
 use Rattle.justfile_model.specs.Trees.ContentLeaf as contents
 use Rattle.justfile_model.specs.Trees.ContentLeaf.{ContentLeaf, content_cmp}
-use Rattle.justfile_model.specs.Trees.Key.{Key, Keys, leaf, node, end, next, row, keys_of, option_key, key_cmp}
+use Rattle.justfile_model.specs.Trees.Key.{Key, Keys, leaf, node, end, next, sequence, keys_of, option_key, key_cmp}
 use Rattle.justfile_leaves.specs.LeafContent.{literal_content, token_content}
 use Rattle.justfile_expression.specs.LeafViews.{views_leaves}
 use Rattle.justfile_expression.specs.LeafTree.{leaf_tree_of}
@@ -42,7 +42,7 @@ abbrev pub boxed_key : Box Expression → Key ContentLeaf
 boxed_key b = expression_key b.value
 
 abbrev pub property_key : Name × Box Expression → Key ContentLeaf
-property_key p = row (next (name_key p.0) (next (boxed_key p.1) end))
+property_key p = sequence (next (name_key p.0) (next (boxed_key p.1) end))
 
 abbrev pub count_key : ℕ → Key ContentLeaf
 count_key n = leaf (contents.count n)
@@ -54,7 +54,7 @@ abbrev pub signal_key : Signal → Key ContentLeaf
 signal_key s = leaf (contents.signal s)
 
 abbrev pub interpreter_key : Interpreter StringLiteral → Key ContentLeaf
-interpreter_key i = row (next (literal_key i.command) (next (row (keys_of literal_key i.arguments.items)) end))
+interpreter_key i = sequence (next (literal_key i.command) (next (sequence (keys_of literal_key i.arguments.items)) end))
 
 -- the keys of the fields of an attribute, in declared order
 abbrev pub form_keys : Form → Keys ContentLeaf
@@ -62,9 +62,9 @@ form_keys forms.Plain = end
 form_keys (forms.Optional value) = next (option_key boxed_key value) end
 form_keys (forms.Single value) = next (boxed_key value) end
 form_keys (forms.Literal literal) = next (literal_key literal) end
-form_keys (forms.Literals literals) = next (row (keys_of literal_key literals)) end
+form_keys (forms.Literals literals) = next (sequence (keys_of literal_key literals)) end
 form_keys (forms.Env name value) = next (boxed_key name) (next (boxed_key value) end)
-form_keys (forms.Signals signals) = next (row (keys_of signal_key signals)) end
+form_keys (forms.Signals signals) = next (sequence (keys_of signal_key signals)) end
 form_keys (forms.Cache extra inputs outputs) = next (option_key boxed_key extra) (next (option_key boxed_key inputs) (next (option_key boxed_key outputs) end))
 form_keys (forms.Script interpreter) = next (option_key interpreter_key interpreter) end
 form_keys (forms.Arg flag help property long long_key max max_key min min_key multiple name pattern short short_key value) =

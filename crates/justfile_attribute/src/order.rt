@@ -6,7 +6,7 @@ ghost use Rattle.std.specs.Ordering.{nat_cmp};
 ghost use Rattle.justfile_vocabulary.specs.contracts.attribute_kind.AttributeKind.{the_type};
 ghost use Rattle.justfile_vocabulary.specs.declared.attribute_kind.AttributeKind.TheVariants as kinds;
 ghost use Rattle.justfile_model.specs.Trees.ContentLeaf.{content_cmp};
-ghost use Rattle.justfile_model.specs.Trees.Key.{keys_cmp, end, next, keys_of, option_key, row};
+ghost use Rattle.justfile_model.specs.Trees.Key.{keys_cmp, end, next, keys_of, option_key, sequence};
 ghost use Rattle.justfile_attribute.specs.Form.{case_kind};
 ghost use Rattle.justfile_attribute.specs.Order.{attribute_content_cmp, boxed_key, by_content, case_keys, count_key, expression_key, interpreter_key, literal_key, name_key, property_key, signal_key, text_key, token_key};
 
@@ -175,7 +175,7 @@ fn compare_confirm<'src>(
 /// Compares the signals of two attributes.
 fn compare_continue<'src>(signals: &BTreeSet<Signal>, other: &Attribute<'src>) -> Ordering
     requires { kinds.Continue ≡ case_kind other.now }
-    ensures { result ≡ keys_cmp content_cmp (next (row (keys_of signal_key signals.now.keys)) end)
+    ensures { result ≡ keys_cmp content_cmp (next (sequence (keys_of signal_key signals.now.keys)) end)
         (case_keys other.now) }
 {
     match other {
@@ -242,7 +242,7 @@ fn compare_group<'src>(group: &StringLiteral<'src>, other: &Attribute<'src>) -> 
 /// Compares two lists of metadata.
 fn compare_metadata<'src>(texts: &Vec<StringLiteral<'src>>, other: &Attribute<'src>) -> Ordering
     requires { kinds.Metadata ≡ case_kind other.now }
-    ensures { result ≡ keys_cmp content_cmp (next (row (keys_of literal_key texts.now.items)) end)
+    ensures { result ≡ keys_cmp content_cmp (next (sequence (keys_of literal_key texts.now.items)) end)
         (case_keys other.now) }
 {
     match other {

@@ -8,7 +8,7 @@ use Rattle.justfile_vocabulary.specs.declared.attribute_kind.AttributeKind.TheVa
 use Rattle.justfile_model.specs.Trees.ContentKeys.{attribute_key, expr_key}
 use Rattle.justfile_model.specs.Trees.ContentLeaf as contents
 use Rattle.justfile_model.specs.Trees.ContentLeaf.{ContentLeaf}
-use Rattle.justfile_model.specs.Trees.Key.{Key, leaf, node, end, next, row, option_key, present_key}
+use Rattle.justfile_model.specs.Trees.Key.{Key, leaf, node, end, next, sequence, option_key, present_key}
 use Rattle.justfile_expression.specs.LeafViews.{views_leaves}
 use Rattle.justfile_expression.specs.declared.expression.Expression.{Expression}
 use Rattle.justfile_token.specs.Copies.{IsSameIfPresent, IsSameText}
@@ -34,7 +34,7 @@ same_expression : (copy original : Box Expression) → IsSameBoxed copy original
 same_expression copy original same = ap (expr_key views_leaves) (same_boxed copy original same)
 
 same_property : (copy original : Name × Box Expression) → IsSameProperty copy original → property_key copy ≡ property_key original
-same_property copy original same = λ i. row (next (name_key (same.0 i)) (next (same_expression copy.1 original.1 same.1 i) end))
+same_property copy original same = λ i. sequence (next (name_key (same.0 i)) (next (same_expression copy.1 original.1 same.1 i) end))
 
 -- `arg` attributes, field by field
 same_arg : (copy original : Attribute) → case_kind copy ≡ kinds.Arg → IsSameAttribute copy original → content_key copy ≡ content_key original

@@ -6,7 +6,7 @@ use Rattle.justfile_canonical.specs.Fault.{IsFormatFaultOf, IsRejectionOf}
 use Rattle.justfile_canonical.specs.declared.fault.FormatFault.{FormatFault}
 use Rattle.justfile_canonical.specs.declared.fault.FormatFault.TheVariants.{Rejected}
 use Rattle.justfile_canonical.specs.declared.fault.Rejection.{Rejection}
-use Rattle.justfile_c.specs.Answers.{Gives, IsAt, IsLaid, IsRefusal, laid, longer, rejected}
+use Rattle.justfile_c.specs.Answers.{Gives, IsAt, IsLaid, IsRejected, laid, longer, rejected}
 use Rattle.justfile_c.specs.declared.JustfileAnswer.{JustfileAnswer}
 
 pub given : (Holds : List ℕ → Type 0) (text old new : List ℕ) (answer : JustfileAnswer) → Holds text → IsLaid text old new answer
@@ -25,9 +25,9 @@ given Holds text old new answer holds (longer same fits short is) = record {
 }
 
 -- The answer tells the place of the rejection's token.
-refusal : (source : List ℕ) (rejection : Rejection) (answer : JustfileAnswer) → IsRejectionOf (codes "justfile") source rejection
-    → IsAt rejection.offset rejection.length rejection.line rejection.column answer → IsRefusal source answer (string_bytes rejection.lines)
-refusal source rejection answer of at = rejected of.told (record {
+rejection_told : (source : List ℕ) (rejection : Rejection) (answer : JustfileAnswer) → IsRejectionOf (codes "justfile") source rejection
+    → IsAt rejection.offset rejection.length rejection.line rejection.column answer → IsRejected source answer (string_bytes rejection.lines)
+rejection_told source rejection answer of at = rejected of.told (record {
   offset_is = at.offset_is ∙ of.place.offset;
   width_is = at.width_is ∙ of.place.length;
   line_is = at.line_is ∙ of.place.line;
@@ -35,9 +35,9 @@ refusal source rejection answer of at = rejected of.told (record {
 })
 
 -- the same for the fault of a text that the bytes are
-pub refused : (bytes text : List ℕ) (fault : FormatFault) (rejection : Rejection) (answer : JustfileAnswer) → text ≡ bytes → fault ≡ Rejected rejection
+pub rejected_text : (bytes text : List ℕ) (fault : FormatFault) (rejection : Rejection) (answer : JustfileAnswer) → text ≡ bytes → fault ≡ Rejected rejection
     → IsFormatFaultOf (codes "justfile") text fault → IsAt rejection.offset rejection.length rejection.line rejection.column answer
-    → IsRefusal bytes answer (string_bytes rejection.lines)
-refused bytes text fault rejection answer same is of at =
+    → IsRejected bytes answer (string_bytes rejection.lines)
+rejected_text bytes text fault rejection answer same is of at =
     let found : IsFormatFaultOf (codes "justfile") text (Rejected rejection) = subst (λ (it : FormatFault). IsFormatFaultOf (codes "justfile") text it) is of
-    in refusal bytes rejection answer (subst (λ (it : List ℕ). IsRejectionOf (codes "justfile") it rejection) same found) at
+    in rejection_told bytes rejection answer (subst (λ (it : List ℕ). IsRejectionOf (codes "justfile") it rejection) same found) at

@@ -30,11 +30,11 @@ IsNowhere answer = IsAt 0 0 0 0 answer
 
 -- The lines tell why the text has no canonical text: the error for which it isn't a justfile, with the place of its token, or that a line
 -- of a body ends in a carriage return.
-pub data IsRefusal (source : List ℕ) (answer : JustfileAnswer) (lines : List ℕ) : Type 0 where
+pub data IsRejected (source : List ℕ) (answer : JustfileAnswer) (lines : List ℕ) : Type 0 where
   rejected : (told : IsRejection (codes "justfile") source lines)
       → IsAt told.error.token.offset told.error.token.length told.error.token.line told.error.token.column answer
-      → IsRefusal source answer lines
-  unprintable : IsUnprintable source → IsNowhere answer → lines ≡ format_fault_text faults.NotPrintable → IsRefusal source answer lines
+      → IsRejected source answer lines
+  unprintable : IsUnprintable source → IsNowhere answer → lines ≡ format_fault_text faults.NotPrintable → IsRejected source answer lines
 
 -- The line tells why it isn't known whether the text has a canonical text. That memory ran out implies nothing about the text.
 pub data IsFailure (source lines : List ℕ) : Type 0 where

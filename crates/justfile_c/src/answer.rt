@@ -8,7 +8,7 @@ use justfile_canonical::fault::Rejection;
 /// The status of a text that was formatted.
 pub(crate) const FORMATTED: u32 = 0;
 /// The status of a text that has no formatted text.
-pub(crate) const REFUSED: u32 = 2;
+pub(crate) const REJECTED: u32 = 2;
 /// The status if the text isn't UTF-8, or memory or numbers ran out.
 pub(crate) const FAILED: u32 = 3;
 
@@ -41,7 +41,7 @@ pub(crate) fn put_rejection(rejection: &Rejection, room: &mut [u8]) -> JustfileA
         rejection.now.column result }
     ensures laid { IsLaid (string_bytes rejection.now.lines) room.old room.new result }
 {
-    let answer = put(REFUSED, &rejection.lines, room);
+    let answer = put(REJECTED, &rejection.lines, room);
     JustfileAnswer {
         offset: rejection.offset,
         width: rejection.length,

@@ -9,9 +9,9 @@ mod tests;
 ghost use Rattle.std.specs.Prelude.{◌≡◌, ◌≢◌, ◌<◌, drop, length};
 ghost use Rattle.std.specs.Str.{IsUtf8};
 ghost use Rattle.justfile_canonical.specs.Formatting.{HasNone, IsFormatted};
-ghost use Rattle.justfile_c.specs.Answers.{Gives, IsFailure, IsNowhere, IsRefusal, IsStatus};
+ghost use Rattle.justfile_c.specs.Answers.{Gives, IsFailure, IsNowhere, IsRejected, IsStatus};
 
-use crate::answer::{FAILED, FORMATTED, REFUSED, put, put_rejection};
+use crate::answer::{FAILED, FORMATTED, REJECTED, put, put_rejection};
 use justfile_canonical::fault::FormatFault;
 use justfile_canonical::formatting::format_text;
 use std::alloc::Global;
@@ -53,7 +53,7 @@ pub extern "C" fn justfile_format(
     ensures formatted { answer.new.status ≡ 0 → Gives (IsFormatted text.now) answer.new room.new }
     ensures rejected { answer.new.status ≡ 2 → HasNone text.now }
     ensures told { answer.new.status ≡ 2
-        → Gives (IsRefusal text.now answer.new) answer.new room.new }
+        → Gives (IsRejected text.now answer.new) answer.new room.new }
     ensures failed { answer.new.status ≡ 3 → Gives (IsFailure text.now) answer.new room.new }
     ensures not_utf8 { ¬ IsUtf8 text.now → answer.new.status ≡ 3 }
     ensures nowhere { answer.new.status ≢ 2 → IsNowhere answer.new }
@@ -67,7 +67,11 @@ pub extern "C" fn justfile_format(
         Ok(source) => match format_text(alloc, "justfile", source) {
             Ok(canonical) => put(FORMATTED, &canonical, room),
             Err(FormatFault::Rejected(rejection)) => put_rejection(&rejection, room),
-            Err(FormatFault::NotPrintable) => put(REFUSED, FormatFault::NotPrintable.lines(), room),
+            Err(FormatFault::NotPrintable) => put(
+                REJECTED,
+                FormatFault::NotPrintable.lines(),
+                room,
+            ),
             Err(fault) => put(FAILED, fault.lines(), room),
         },
     };

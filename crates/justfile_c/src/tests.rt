@@ -34,15 +34,15 @@ fn each_status(rt: HostRuntime) -> std::io::Result<()> {
     assert_eq!(rt; &room, b"a := b\n789");
 
     let mut lines = [b'.'; 128];
-    let refused = "error: expected '*', identifier, or '(', but found end of line\n\
+    let rejected_text = "error: expected '*', identifier, or '(', but found end of line\n\
         \x20——▶ justfile:2:8\n\
         \x20 │\n\
         2 │ b: c &&\n\
         \x20 │        ^\n";
     let (kind, place) = told(alloc, b"\nb: c &&\n", &mut lines);
     assert_eq!(rt; kind, [2, 1]);
-    assert_eq!(rt; place, [refused.len(), 8, 1, 1, 7]);
-    assert_eq!(rt; lines.starts_with(refused.as_bytes()), true);
+    assert_eq!(rt; place, [rejected_text.len(), 8, 1, 1, 7]);
+    assert_eq!(rt; lines.starts_with(rejected_text.as_bytes()), true);
     let other = told(alloc, b"\xff", &mut lines);
     assert_eq!(rt; other, ([3, 1], [26, 0, 0, 0, 0]));
     assert_eq!(rt; lines.starts_with(b"error: input is not UTF-8\n"), true);

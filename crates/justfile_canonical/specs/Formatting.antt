@@ -14,7 +14,7 @@ use Rattle.justfile_model.specs.Trees.Tree.{Tree, shape_of}
 use Rattle.justfile_ast.specs.Ast.{features_of, tree_of}
 use Rattle.justfile_ast.specs.declared.ast.Ast.{Ast}
 use Rattle.justfile_round_trip.specs.RoundTrip.{TextDerives, printed}
-use Rattle.justfile_parse.specs.Parsing.{IsTextRefused, TextWantsNumber}
+use Rattle.justfile_parse.specs.Parsing.{IsTextRejected, TextWantsNumber}
 use Rattle.justfile_indentation.specs.OwnIndentation.{HasCookedIndentation, IsIndentedBy}
 use Rattle.justfile_canonical.specs.Messages.{error_text}
 use Rattle.justfile_canonical.specs.Root.{IsFromZero, conditions}
@@ -40,7 +40,7 @@ pub record IsRejection (path source lines : List ℕ) : Type 0 where
   pub rejected : IsRejectedText source
   pub error : CompileError
   pub from : IsFrom path source error.token
-  pub cause : IsLexicalError path source error ⊎ IsTextRefused conditions source error
+  pub cause : IsLexicalError path source error ⊎ IsTextRejected conditions source error
   pub is : lines ≡ error_text error
 
 -- The text is a justfile, but a line of a body ends in a carriage return.

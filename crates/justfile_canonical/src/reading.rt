@@ -12,46 +12,46 @@ use justfile_token::CompileResult;
 use std::alloc::{AllocError, Global};
 
 /// What is done with a file.
-pub trait Reader {
-    /// Reading the file changed the first reader into the second.
-    ghost reads: { Self → Ast → Self → Type 0 };
+pub trait Inspector {
+    /// Inspecting the file changed the first inspector into the second.
+    ghost inspects: { Self → Ast → Self → Type 0 };
 
-    /// Reads the file.
-    fn read(ast: &Ast<'_>, reader: &mut Self)
-        ensures { reads reader.old ast.now reader.new };
+    /// Inspects the file.
+    fn inspect(ast: &Ast<'_>, inspector: &mut Self)
+        ensures { inspects inspector.old ast.now inspector.new };
 }
 
-/// Parses a text as the root file at this path, and lends it to the reader.
+/// Parses a text as the root file at this path, and lends it to the inspector.
 ///
 /// # Errors
 ///
-/// As for `parse_root`. Then the reader is unchanged.
-pub fn read_root<'src, R: Reader>(
+/// As for `parse_root`. Then the inspector is unchanged.
+pub fn inspect_root<'src, I: Inspector>(
     alloc: Global,
     path: &'src str,
     source: &'src str,
-    reader: &mut R,
+    inspector: &mut I,
 ) -> CompileResult<'src, ()>
     ensures ok { OnOk result
-        ((ast : Ast) × IsRoot path.now source.now ast × R.reads reader.old ast reader.new) }
+        ((ast : Ast) × IsRoot path.now source.now ast × I.inspects inspector.old ast inspector.new) }
     ensures err { IfErr result (HasNoRoot path.now source.now) }
-    ensures unread { OnErr result (reader.new ≡ reader.old) }
+    ensures unchanged { OnErr result (inspector.new ≡ inspector.old) }
 {
     match parse_root(alloc, path, source) {
         Ok(mut ast) => {
-            lend(&mut ast, reader);
+            lend(&mut ast, inspector);
             Ok(())
         }
         Err(fault) => Err(fault),
     }
 }
 
-/// Lends a file to a reader. The file is passed as `&mut` for the same reason as in
+/// Lends a file to an inspector. The file is passed as `&mut` for the same reason as in
 /// `formatting.rt`.
-fn lend<R: Reader>(ast: &mut Ast<'_>, reader: &mut R)
-    ensures { R.reads reader.old ast.old reader.new }
+fn lend<I: Inspector>(ast: &mut Ast<'_>, inspector: &mut I)
+    ensures { I.inspects inspector.old ast.old inspector.new }
 {
-    R::read(ast, reader);
+    I::inspect(ast, inspector);
 }
 
 /// What is asked of a file. The answer can't borrow the text.

@@ -15,25 +15,25 @@ use Rattle.justfile_model.specs.Trees.Tree.{Shape}
 use Rattle.justfile_model.proofs.Derivations.CarryExpressions.{Pairs, Same, nil, pairs_before}
 use Rattle.justfile_model.proofs.Derivations.Leaves.{elsewhere}
 use Rattle.justfile_model.proofs.Lexing.UnclosedLaws.{reverse_more}
-use Rattle.justfile_round_trip.proofs.LiteralTexts.LexedModes.{Mark, mark}
+use Rattle.justfile_round_trip.proofs.LiteralTexts.LexedModes.{Sign, sign}
 use Rattle.justfile_chunks_grammar.specs.Chunks.{AreParts, ChunksHave, Each, HasShape, IsCut, IsCutAfter, Parts, ShapeFeatures, ShapeLaw, chunk_texts, ends_line, joined, line_kind, next_kind}
 use Rattle.justfile_chunks_grammar.proofs.Colons.{IndentsHaveColons}
 use Rattle.justfile_chunks_grammar.proofs.OneCut.{CutLaw, FeedLaw, TokensDeriveShape, colons_law, cut_law, feed_law, rederived, shape_from, shape_to}
 use Rattle.justfile_chunks_grammar.proofs.Passes.{line_ended, line_with}
 use Rattle.justfile_chunks.proofs.ChunkTokens.{Borders, ChunkLexes, chunks_by, chunks_lex, closed, ended_before, first_part, onto, plain, tokens_by}
-use Rattle.justfile_chunks.proofs.SameModes.{marks}
+use Rattle.justfile_chunks.proofs.SameModes.{signs}
 use Rattle.justfile_chunks.proofs.SameNext.{cons_parts}
 
 -- ---- tokens with the same kinds and lexemes
 
-pairs_of : (ts us : List Tok) → marks ts ≡ marks us → (g : Bool) → Pairs Same (significant_from g ts) (significant_from g us)
+pairs_of : (ts us : List Tok) → signs ts ≡ signs us → (g : Bool) → Pairs Same (significant_from g ts) (significant_from g us)
 pairs_of [] [] e g = nil
 pairs_of (t ∷ ts) (u ∷ us) e g =
-    let h = cons_parts (mark t.kind t.lexeme) (mark u.kind u.lexeme) (marks ts) (marks us) e in
-    let kind : t.kind ≡ u.kind = ap (λ (m : Mark). m.kind) h.0 in
+    let h = cons_parts (sign t.kind t.lexeme) (sign u.kind u.lexeme) (signs ts) (signs us) e in
+    let kind : t.kind ≡ u.kind = ap (λ (m : Sign). m.kind) h.0 in
     subst (λ k. Pairs Same (significant_from g (t ∷ ts)) (cond (is_whitespace k) (significant_from false us)
     (record { tok = u; glued = g } ∷ significant_from true us))) kind
-    (pairs_before _ _ (is_whitespace t.kind) (record { kind = kind; lexeme = ap (λ (m : Mark). m.lexeme) h.0; glued = refl }) (pairs_of ts us h.1 false)
+    (pairs_before _ _ (is_whitespace t.kind) (record { kind = kind; lexeme = ap (λ (m : Sign). m.lexeme) h.0; glued = refl }) (pairs_of ts us h.1 false)
     (pairs_of ts us h.1 true))
 pairs_of _ _ e g = cc
 
@@ -241,7 +241,7 @@ module _ {X F : Type 0} (newline : X) (Derives : List Tok → List X → List F 
 
 module _ (conditions : Conditions) where
   -- tokens with the same kinds and lexemes derive the same shapes
-  elsewhere_too : (ts us : List Tok) {shape : Shape} {features : ShapeFeatures} → marks ts ≡ marks us → TokensDeriveShape conditions ts shape features
+  elsewhere_too : (ts us : List Tok) {shape : Shape} {features : ShapeFeatures} → signs ts ≡ signs us → TokensDeriveShape conditions ts shape features
       → TokensDeriveShape conditions us shape features
   elsewhere_too ts us e h =
       rederived to_lexemes conditions (views_lexemes conditions.expander) (λ ls. ls) (λ ls ms. refl) ts us h

@@ -14,7 +14,7 @@ use Rattle.justfile_model.specs.Lexing.Places.{line_of_offset}
 use Rattle.justfile_model.specs.Lexing.SignificantTokens.{is_whitespace}
 use Rattle.justfile_model.specs.Lexing.Tok.{Tok}
 use Rattle.justfile_model.proofs.Lexing.CutLemmas.{class_fact}
-use Rattle.justfile_round_trip.proofs.LiteralTexts.LexedModes.{LexesTo, Mark, end, lexed, mark, step, tok_at, toks}
+use Rattle.justfile_round_trip.proofs.LiteralTexts.LexedModes.{LexesTo, Sign, end, lexed, sign, step, tok_at, toks}
 use Rattle.justfile_round_trip.proofs.RecipeBodies.Lines.{blank_line}
 use Rattle.justfile_chunks_grammar.specs.Chunks.{IsCutAfter, Parts, next_kind}
 use Rattle.justfile_chunks_grammar.proofs.Colons.{NeedsColon}
@@ -82,17 +82,17 @@ module _ (d : ℕ) (s : StartToken d) where
   abbrev text : List ℕ
   text = 10 ∷ d ∷ []
 
-  abbrev ms : List Mark
-  ms = mark kinds.Eol (10 ∷ []) ∷ mark s.kind (d ∷ []) ∷ []
+  abbrev ms : List Sign
+  ms = sign kinds.Eol (10 ∷ []) ∷ sign s.kind (d ∷ []) ∷ []
 
   lexes : LexesTo start_mode text ms
   lexes = blank_line false (step start_mode s.kind (d ∷ []) [] [] s.found s.begins.goes_on (λ o n c. end _ (s.begins.ended _)))
 
   abbrev feed : Tok
-  feed = tok_at text 0 (mark kinds.Eol (10 ∷ []))
+  feed = tok_at text 0 (sign kinds.Eol (10 ∷ []))
 
   abbrev others : List Tok
-  others = toks text (0 + 1) (mark s.kind (d ∷ []) ∷ [])
+  others = toks text (0 + 1) (sign s.kind (d ∷ []) ∷ [])
 
   cut_after : IsCutAfter feed [] others
   cut_after =

@@ -18,15 +18,15 @@ use Rattle.justfile_model.proofs.Lexing.LexedLaws.{ended, joined, one_list}
 use Rattle.justfile_model.proofs.Lexing.NextLaws.{token_cut}
 use Rattle.justfile_model.proofs.Lexing.UnclosedLaws.{reverse_more}
 use Rattle.justfile_round_trip.proofs.LiteralTexts.FormatScans.{same_front}
-use Rattle.justfile_round_trip.proofs.LiteralTexts.LexedModes.{LexesTo, Mark, lexed, mark, toks}
+use Rattle.justfile_round_trip.proofs.LiteralTexts.LexedModes.{LexesTo, Sign, lexed, sign, toks}
 use Rattle.justfile_round_trip.proofs.RecipeBodies.Lines.{blank_line}
 use Rattle.justfile_round_trip.proofs.Values.TokenFacts.{Runs}
 use Rattle.justfile_chunks_grammar.specs.Chunks.{AreParts, IsCut, Parts, after_feed, chunk_texts, next_kind, text_of}
 use Rattle.justfile_chunks.proofs.CutModes.{BodyHasLevel, level_after, mode_at_cut}
-use Rattle.justfile_chunks.proofs.PartLexes.{EndsEmpty, EndsOnce, IsPart, but_last, colons_back, ends_later, last_lexes, last_marks, part_lexes, same_colons}
+use Rattle.justfile_chunks.proofs.PartLexes.{EndsEmpty, EndsOnce, IsPart, but_last, colons_back, ends_later, last_lexes, last_signs, part_lexes, same_colons}
 use Rattle.justfile_chunks.proofs.PartSteps.{Uncut, kind_is, len_is}
 use Rattle.justfile_chunks_grammar.proofs.Colons.{IndentsHaveColons, NeedsColon, colon_after}
-use Rattle.justfile_chunks.proofs.SameModes.{HaveColon, NoneIsEof, marks, mode_past}
+use Rattle.justfile_chunks.proofs.SameModes.{HaveColon, NoneIsEof, signs, mode_past}
 use Rattle.justfile_chunks.proofs.SameNext.{SameMode}
 use Rattle.justfile_chunks.proofs.SplitRuns.{in_order, runs_of, split_run, split_utf8}
 use Rattle.justfile_chunks.proofs.TidyModes.{EndsInFeed, Fed, LevelFact, Tidy, feed_of, fed_run}
@@ -307,32 +307,32 @@ module _ (b : Borders) where
 
 -- The text has these tokens, up to their places, if each indent follows a colon: of these tokens, or of those of the text.
 pub record ChunkLexes (text : List ℕ) (tokens : List Tok) : Type 0 where
-  pub lexes : IndentsHaveColons false tokens → (us : List Tok) × Lexed text us × (marks us ≡ marks tokens)
-  pub has : (us : List Tok) → Lexed text us → IndentsHaveColons false us → marks us ≡ marks tokens
+  pub lexes : IndentsHaveColons false tokens → (us : List Tok) × Lexed text us × (signs us ≡ signs tokens)
+  pub has : (us : List Tok) → Lexed text us → IndentsHaveColons false us → signs us ≡ signs tokens
 
 abbrev pub AllLex : List (List ℕ) → List (List Tok) → Type 0
 AllLex texts chunks = AllZip ChunkLexes texts chunks
 
-pub marks_toks : (text : List ℕ) (offset : ℕ) (ms : List Mark) → marks (toks text offset ms) ≡ ms ++ (mark kinds.Eof [] ∷ [])
-marks_toks text offset [] = refl
-marks_toks text offset (m ∷ ms) = ap (λ x. m ∷ x) (marks_toks text (offset + length m.lexeme) ms)
+pub signs_toks : (text : List ℕ) (offset : ℕ) (ms : List Sign) → signs (toks text offset ms) ≡ ms ++ (sign kinds.Eof [] ∷ [])
+signs_toks text offset [] = refl
+signs_toks text offset (m ∷ ms) = ap (λ x. m ∷ x) (signs_toks text (offset + length m.lexeme) ms)
 
 pub feed_first : (x : List ℕ) → next start_mode (10 ∷ x) ≡ Ok (kinds.Eol, 1)
 unfolding next layout token_within_line token_by_class class_of
 feed_first x = refl
 
-module _ (b : Borders) (part tokens : List Tok) (ms : List Mark) (are : marks tokens ≡ ms ++ (mark kinds.Eof [] ∷ []))
+module _ (b : Borders) (part tokens : List Tok) (ms : List Sign) (are : signs tokens ≡ ms ++ (sign kinds.Eof [] ∷ []))
     (to : IndentsHaveColons false tokens → LexesTo start_mode (text_of part) ms)
     (back : (us : List Tok) → Runs start_mode (text_of part) us → EndsOnce us → IndentsHaveColons false us → IndentsHaveColons false tokens) where
   lexes_by : (first : Bool) → IndentsHaveColons false tokens → (us : List Tok) × Lexed (text_by first part) us
-      × (marks us ≡ marks (tokens_by b first part tokens))
-  lexes_by true c = (toks (text_of part) 0 ms, lexed (text_of part) ms (to c), marks_toks (text_of part) 0 ms ∙ sym are)
+      × (signs us ≡ signs (tokens_by b first part tokens))
+  lexes_by true c = (toks (text_of part) 0 ms, lexed (text_of part) ms (to c), signs_toks (text_of part) 0 ms ∙ sym are)
   lexes_by false c =
-      let ns : List Mark = mark kinds.Eol (10 ∷ []) ∷ ms in (
+      let ns : List Sign = sign kinds.Eol (10 ∷ []) ∷ ms in (
         toks (after_feed part) 0 ns,
         lexed (after_feed part) ns (blank_line false (to c)),
-        marks_toks (after_feed part) 0 ns
-            ∙ (λ i. mark (sym (b.feed_kind part) i) (sym (b.feed_text part) i) ∷ sym are i),
+        signs_toks (after_feed part) 0 ns
+            ∙ (λ i. sign (sym (b.feed_kind part) i) (sym (b.feed_text part) i) ∷ sym are i),
       )
 
   colons_by : (first : Bool) (us : List Tok) → Runs start_mode (text_by first part) us → EndsOnce us → IndentsHaveColons false us
@@ -352,7 +352,7 @@ module _ (b : Borders) (part tokens : List Tok) (ms : List Mark) (are : marks to
     lexes = λ c. lexes_by first (later first c);
     has = λ us l c.
         let x = lexes_by first (colons_by first us (runs_of (text_by first part) us l) (lexed_ends (text_by first part) us l) c) in
-        ap marks (one_list (text_by first part) us x.0 l x.1) ∙ x.2;
+        ap signs (one_list (text_by first part) us x.0 l x.1) ∙ x.2;
   }
     where
       later : (first : Bool) → IndentsHaveColons false (tokens_by b first part tokens) → IndentsHaveColons false tokens
@@ -386,9 +386,9 @@ module _ (b : Borders) where
       → ChunkLexes (text_by first part) (tokens_by b first part (closed b first part))
   cut_chunk earlier part rest n first =
       let t = b.eof first part in
-      let are : marks (part ++ (t ∷ [])) ≡ marks part ++ (mark kinds.Eof [] ∷ []) =
-      map-append (λ (t : Tok). mark t.kind t.lexeme) part (t ∷ []) ∙ (λ i. marks part ++ (mark (b.eof_kind first part i) (b.eof_text first part i) ∷ [])) in
-      chunk_by b part (closed b first part) (marks part) are
+      let are : signs (part ++ (t ∷ [])) ≡ signs part ++ (sign kinds.Eof [] ∷ []) =
+      map-append (λ (t : Tok). sign t.kind t.lexeme) part (t ∷ []) ∙ (λ i. signs part ++ (sign (b.eof_kind first part i) (b.eof_text first part i) ∷ [])) in
+      chunk_by b part (closed b first part) (signs part) are
       (λ c. record { is = part_lexes (text_of rest) rest n.some n.more part earlier start_mode false n.is_part (colons_front part (t ∷ []) false c) n.ended })
       (λ us r o c. colons_append part (t ∷ []) false (colons_back (text_of rest) rest n.some n.more part us earlier start_mode false n.is_part r o c)
       (subst (λ k. NeedsColon k false) (sym (b.eof_kind first part)) tt, tt))
@@ -397,7 +397,7 @@ module _ (b : Borders) where
   -- the last chunk
   pub last_chunk : (earlier later : List Tok) → Later earlier later → (first : Bool) → ChunkLexes (text_by first later) (tokens_by b first later later)
   last_chunk earlier later h =
-      chunk_by b later later (marks (but_last later)) (last_marks later h.ends h.empty)
+      chunk_by b later later (signs (but_last later)) (last_signs later h.ends h.empty)
       (λ c. record { is = last_lexes later (mode earlier) start_mode false h.same (no_colon (mode earlier) start_mode) c h.ends h.empty h.run })
       (λ us r o c. same_colons later us (mode earlier) start_mode false (text_of later) h.same (no_colon (mode earlier) start_mode) h.run r h.ends o c)
 

@@ -8,7 +8,7 @@ use Rattle.justfile_model.specs.Lexing.Lexed.{Lexed}
 use Rattle.justfile_model.specs.Lexing.Modes.{mode}
 use Rattle.justfile_model.specs.Lexing.SignificantTokens.{is_whitespace}
 use Rattle.justfile_model.specs.Lexing.Tok.{Tok, tok}
-use Rattle.justfile_round_trip.proofs.LiteralTexts.LexedModes.{mark}
+use Rattle.justfile_round_trip.proofs.LiteralTexts.LexedModes.{sign}
 use Rattle.justfile_chunks_grammar.specs.Chunks.{Chunk, IsCut, Parts, after_feed, later_chunk, line_kind, next_kind, text_of}
 use Rattle.justfile_chunks.specs.JoinedTexts.{joined_chunk}
 use Rattle.justfile_chunks_grammar.proofs.Colons.{IndentsHaveColons, NeedsColon, colon_after}
@@ -18,7 +18,7 @@ use Rattle.justfile_chunks.proofs.AllCuts.{Fresh, cut_by, fresh, levels_like}
 use Rattle.justfile_chunks.proofs.AskedNext.{SameAsked, as_asked, cut_next}
 use Rattle.justfile_chunks.proofs.ChunkTokens.{ChunkLexes, Later, NextPart, Split, colons_append, colons_front, cut_chunk, first_part, last_chunk, next_part, onto, plain}
 use Rattle.justfile_chunks.proofs.PartSteps.{Uncut, feed_utf8}
-use Rattle.justfile_chunks.proofs.SameModes.{NoneIsEof, marks}
+use Rattle.justfile_chunks.proofs.SameModes.{NoneIsEof, signs}
 use Rattle.justfile_chunks.proofs.SameNext.{cons_parts}
 use Rattle.justfile_chunks.proofs.TidyModes.{EndsInFeed}
 
@@ -220,14 +220,14 @@ first_chunk_of part (q ∷ parts) e later h p =
       colons = colons_front part (plain.eof false part ∷ []) false;
     }
 
-next_marks : (ts us : List Tok) → marks ts ≡ marks us → next_kind ts ≡ next_kind us
-next_marks [] [] e = refl
-next_marks (t ∷ ts) (u ∷ us) e =
-    let h = cons_parts (mark t.kind t.lexeme) (mark u.kind u.lexeme) (marks ts) (marks us) e in
-    λ i. cond (is_whitespace (h.0 i).kind) (next_marks ts us h.1 i) (Some (h.0 i).kind)
-next_marks _ _ e = cc
+next_signs : (ts us : List Tok) → signs ts ≡ signs us → next_kind ts ≡ next_kind us
+next_signs [] [] e = refl
+next_signs (t ∷ ts) (u ∷ us) e =
+    let h = cons_parts (sign t.kind t.lexeme) (sign u.kind u.lexeme) (signs ts) (signs us) e in
+    λ i. cond (is_whitespace (h.0 i).kind) (next_signs ts us h.1 i) (Some (h.0 i).kind)
+next_signs _ _ e = cc
 
-tokens_are : (later part : List Tok) (c : FirstChunk later part) (o : OwnTokens (after_feed part)) → marks o.tokens ≡ marks (plain.feed part ∷ c.tokens)
+tokens_are : (later part : List Tok) (c : FirstChunk later part) (o : OwnTokens (after_feed part)) → signs o.tokens ≡ signs (plain.feed part ∷ c.tokens)
 tokens_are later part c o = c.lexes.has o.tokens o.lexed o.colons
 
 -- the same chunk begins with a token of the same kind
@@ -239,19 +239,19 @@ same_first later part others q c d text o =
       lexed = subst (λ x. Lexed (10 ∷ x) o.tokens) (sym text) o.lexed;
       colons = o.colons;
     } in
-    let both : marks (plain.feed part ∷ c.tokens) ≡ marks (plain.feed q ∷ d.tokens) = sym (tokens_are later part c mine) ∙ tokens_are others q d o in
+    let both : signs (plain.feed part ∷ c.tokens) ≡ signs (plain.feed q ∷ d.tokens) = sym (tokens_are later part c mine) ∙ tokens_are others q d o in
     c.next
-    ∙ next_marks c.tokens d.tokens (cons_parts (mark kinds.Eol (10 ∷ [])) (mark kinds.Eol (10 ∷ [])) (marks c.tokens) (marks d.tokens) both).1 ∙ sym d.next
+    ∙ next_signs c.tokens d.tokens (cons_parts (sign kinds.Eol (10 ∷ [])) (sign kinds.Eol (10 ∷ [])) (signs c.tokens) (signs d.tokens) both).1 ∙ sym d.next
 
-colons_marks : (ts us : List Tok) (colon : Bool) → marks ts ≡ marks us → IndentsHaveColons colon ts → IndentsHaveColons colon us
-colons_marks [] [] colon e h = tt
-colons_marks (t ∷ ts) (u ∷ us) colon e h =
-    let m = cons_parts (mark t.kind t.lexeme) (mark u.kind u.lexeme) (marks ts) (marks us) e in
-    subst (λ k. NeedsColon k colon × IndentsHaveColons (colon_after k colon) us) (λ i. (m.0 i).kind) (h.0, colons_marks ts us (colon_after t.kind colon) m.1 h.1)
-colons_marks _ _ colon e h = cc
+colons_signs : (ts us : List Tok) (colon : Bool) → signs ts ≡ signs us → IndentsHaveColons colon ts → IndentsHaveColons colon us
+colons_signs [] [] colon e h = tt
+colons_signs (t ∷ ts) (u ∷ us) colon e h =
+    let m = cons_parts (sign t.kind t.lexeme) (sign u.kind u.lexeme) (signs ts) (signs us) e in
+    subst (λ k. NeedsColon k colon × IndentsHaveColons (colon_after k colon) us) (λ i. (m.0 i).kind) (h.0, colons_signs ts us (colon_after t.kind colon) m.1 h.1)
+colons_signs _ _ colon e h = cc
 
 part_colons : (later part : List Tok) → FirstChunk later part → OwnTokens (after_feed part) → IndentsHaveColons false part
-part_colons later part c o = c.colons (colons_marks o.tokens (plain.feed part ∷ c.tokens) false (tokens_are later part c o) o.colons).1
+part_colons later part c o = c.colons (colons_signs o.tokens (plain.feed part ∷ c.tokens) false (tokens_are later part c o) o.colons).1
 
 -- the tokens of parts have their colons if those of the chunks have
 pub colons_of : (parts : List (List Tok)) (e later : List Tok) → Later e later → Parts e later parts → AllByRecursion (λ part. OwnTokens (after_feed part)) parts

@@ -10,18 +10,18 @@ use Rattle.justfile_model.specs.Lexing.Tok.{Tok, tok}
 use Rattle.justfile_model.proofs.Lexing.LexedLaws.{from_follows}
 use Rattle.justfile_model.proofs.Lists.AllParts.{all_mapped}
 use Rattle.justfile_round_trip.proofs.LiteralTexts.FormatScans.{same_front}
-use Rattle.justfile_round_trip.proofs.LiteralTexts.LexedModes.{LexesIn, Mark, follows, lexed, mark, tok_at, toks}
+use Rattle.justfile_round_trip.proofs.LiteralTexts.LexedModes.{LexesIn, Sign, follows, lexed, sign, tok_at, toks}
 use Rattle.justfile_round_trip.proofs.RecipeBodies.Lines.{blank_line}
 use Rattle.justfile_round_trip.proofs.Values.TokenFacts.{Runs}
 use Rattle.justfile_chunks_grammar.specs.Chunks.{Chunk, moved, text_of}
 use Rattle.justfile_chunks_grammar.proofs.Colons.{IndentsHaveColons}
-use Rattle.justfile_chunks.proofs.ChunkTokens.{Later, marks_toks, no_colon}
+use Rattle.justfile_chunks.proofs.ChunkTokens.{Later, signs_toks, no_colon}
 use Rattle.justfile_chunks.proofs.JoinedNext.{IsDark, joined_next}
 use Rattle.justfile_chunks.proofs.JoinedParts.{IsAfter, elsewhere}
 use Rattle.justfile_chunks.proofs.MovedChunks.{none_more, stands}
 use Rattle.justfile_chunks.proofs.MovedPlaces.{Moves, Placed, feeds_append, inside, last_moved, placed, placed_after}
-use Rattle.justfile_chunks.proofs.PartLexes.{but_last, last_lexes, last_marks}
-use Rattle.justfile_chunks.proofs.SameModes.{NoneIsEof, marks, mode_past}
+use Rattle.justfile_chunks.proofs.PartLexes.{but_last, last_lexes, last_signs}
+use Rattle.justfile_chunks.proofs.SameModes.{NoneIsEof, signs, mode_past}
 use Rattle.justfile_chunks.proofs.SameNext.{SameMode, cons_parts}
 use Rattle.justfile_chunks.proofs.SplitRuns.{rest_utf8}
 use Rattle.justfile_chunks.proofs.TidyModes.{EndsInFeed, Fed, fed_suffix}
@@ -46,7 +46,7 @@ module _ (d : ℕ) (dark : IsDark d) (v x : List ℕ) where
 -- each token is at its place in the text
 abbrev pub Standing : List ℕ → ℕ → List Tok → Type 0
 Standing text offset [] = Unit {0}
-Standing text offset (t ∷ ts) = (t ≡ tok_at text offset (mark t.kind t.lexeme)) × Standing text (offset + length t.lexeme) ts
+Standing text offset (t ∷ ts) = (t ≡ tok_at text offset (sign t.kind t.lexeme)) × Standing text (offset + length t.lexeme) ts
 
 before_is : (p r : List ℕ) (k : ℕ) → k < length p → text_before (p ++ r) k ≡ take k p
 before_is p r k l = subst (λ n. text_before (p ++ r) n ≡ take k p) (none_more k) (inside [] p r k l).is
@@ -65,13 +65,13 @@ module _ (p r s : List ℕ) where
   standing [] k h l = tt
   standing (t ∷ ts) k h l =
       let here : k < length p = omega (arith, l, length-append t.lexeme (text_of ts)) in (
-        stands (p ++ r) k t (mark t.kind t.lexeme) h.0 refl ∙ (λ i. tok t.kind t.lexeme k (line_same k here i) (column_same k here i)),
+        stands (p ++ r) k t (sign t.kind t.lexeme) h.0 refl ∙ (λ i. tok t.kind t.lexeme k (line_same k here i) (column_same k here i)),
         standing ts (k + length t.lexeme) h.1 (omega (arith, l, length-append t.lexeme (text_of ts))),
       )
 
-module _ (text rest : List ℕ) (ms : List Mark) where
+module _ (text rest : List ℕ) (ms : List Sign) where
   front_lexes : (ts : List Tok) (m : Mode) (offset : ℕ) → Runs m (text_of ts ++ rest) ts → NoneIsEof ts → Standing text offset ts
-      → LexesIn text (offset + length (text_of ts)) (mode_past m ts) rest ms → LexesIn text offset m (text_of ts ++ rest) (marks ts ++ ms)
+      → LexesIn text (offset + length (text_of ts)) (mode_past m ts) rest ms → LexesIn text offset m (text_of ts ++ rest) (signs ts ++ ms)
   front_lexes [] m offset r n s h = subst (λ k. LexesIn text k m rest ms) (omega arith) h
   front_lexes (t ∷ ts) m offset r n s h =
       let following : r.0 ≡ text_of ts ++ rest = (same_front t.lexeme r.0 t.lexeme (text_of ts ++ rest) (sym r.1
@@ -84,12 +84,12 @@ module _ (text rest : List ℕ) (ms : List Mark) where
         append_assoc t.lexeme (text_of ts) rest,
         r.2,
         n.0,
-        subst (λ u. LexesIn text (offset + length t.lexeme) (mode_after t.kind u m) (text_of ts ++ rest) (marks ts ++ ms)) s.0
+        subst (λ u. LexesIn text (offset + length t.lexeme) (mode_after t.kind u m) (text_of ts ++ rest) (signs ts ++ ms)) s.0
             (front_lexes ts (mode_after t.kind t m) (offset + length t.lexeme) (subst (λ y. Runs (mode_after t.kind t m) y ts) following r.3) n.1 s.1
             (subst (λ k. LexesIn text k (mode_past m (t ∷ ts)) rest ms) (sym size) h)),
       )
 
-  front_toks : (ts : List Tok) (offset : ℕ) → Standing text offset ts → toks text offset (marks ts ++ ms) ≡ ts ++ toks text (offset + length (text_of ts)) ms
+  front_toks : (ts : List Tok) (offset : ℕ) → Standing text offset ts → toks text offset (signs ts ++ ms) ≡ ts ++ toks text (offset + length (text_of ts)) ms
   front_toks [] offset s = ap (λ k. toks text k ms) (omega arith)
   front_toks (t ∷ ts) offset s =
       let size : (offset + length t.lexeme) + length (text_of ts) ≡ offset + length (text_of (t ∷ ts)) = omega (
@@ -100,12 +100,12 @@ module _ (text rest : List ℕ) (ms : List Mark) where
 
 -- ---- after the cut
 
-text_marks : (ts us : List Tok) → marks ts ≡ marks us → text_of ts ≡ text_of us
-text_marks [] [] e = refl
-text_marks (t ∷ ts) (u ∷ us) e =
-    let h = cons_parts (mark t.kind t.lexeme) (mark u.kind u.lexeme) (marks ts) (marks us) e in
-    λ i. (h.0 i).lexeme ++ text_marks ts us h.1 i
-text_marks _ _ e = cc
+text_signs : (ts us : List Tok) → signs ts ≡ signs us → text_of ts ≡ text_of us
+text_signs [] [] e = refl
+text_signs (t ∷ ts) (u ∷ us) e =
+    let h = cons_parts (sign t.kind t.lexeme) (sign u.kind u.lexeme) (signs ts) (signs us) e in
+    λ i. (h.0 i).lexeme ++ text_signs ts us h.1 i
+text_signs _ _ e = cc
 
 -- tokens that are moved to two places
 module _ (at from : Chunk) where
@@ -147,7 +147,7 @@ module _ (at from : Chunk) where
 
 -- tokens of a text after its front, and those of their text after a line feed
 module _ (text front : List ℕ) (ts us : List Tok) (offset line : ℕ) (moves : Moves front (10 ∷ []) offset line) (some : 0 < length (text_of ts))
-    (is : text ≡ front ++ text_of ts) (there : Placed text (length front) ts) (here : Placed (10 ∷ text_of ts) 1 us) (same : marks us ≡ marks ts) where
+    (is : text ≡ front ++ text_of ts) (there : Placed text (length front) ts) (here : Placed (10 ∷ text_of ts) 1 us) (same : signs us ≡ signs ts) where
   pub rest_moved : ts ≡ map (moved offset line) us
   rest_moved =
       let whole : text ≡ front ++ (text_of ts ++ []) = is ∙ ap (λ x. front ++ x) (sym (append-nil (text_of ts))) in
@@ -171,8 +171,8 @@ module _ (at from : Chunk) (d : ℕ) (dark : IsDark d) (v x : List ℕ) (front e
   abbrev text : List ℕ
   text = text_of front ++ (d ∷ x)
 
-  abbrev ms : List Mark
-  ms = marks (but_last rest)
+  abbrev ms : List Sign
+  ms = signs (but_last rest)
 
   front_stands : Standing text 0 front
   front_stands =
@@ -197,7 +197,7 @@ module _ (at from : Chunk) (d : ℕ) (dark : IsDark d) (v x : List ℕ) (front e
         after_f = h.after_f ∙ sym k.after_f;
       }
 
-  whole_lexes : LexesIn text 0 start_mode text (marks front ++ ms)
+  whole_lexes : LexesIn text 0 start_mode text (signs front ++ ms)
   whole_lexes = front_lexes text (d ∷ x) ms front start_mode 0 (runs_joined d dark v x front start_mode utf8 (inr fed) no_eof run) no_eof front_stands rest_lexes
 
   abbrev others : List Tok
@@ -206,13 +206,13 @@ module _ (at from : Chunk) (d : ℕ) (dark : IsDark d) (v x : List ℕ) (front e
   lexed_text : Lexed text (front ++ others)
   lexed_text =
       subst (Lexed text) (front_toks text (d ∷ x) ms front 0 front_stands)
-      (from_follows text [] (toks text 0 (marks front ++ ms)) tt (follows text (marks front ++ ms) [] start_mode 0 text refl refl refl whole_lexes))
+      (from_follows text [] (toks text 0 (signs front ++ ms)) tt (follows text (signs front ++ ms) [] start_mode 0 text refl refl refl whole_lexes))
 
-  others_marks : marks others ≡ marks rest
-  others_marks = marks_toks text (0 + length (text_of front)) ms ∙ sym (last_marks rest later.ends later.empty)
+  others_signs : signs others ≡ signs rest
+  others_signs = signs_toks text (0 + length (text_of front)) ms ∙ sym (last_signs rest later.ends later.empty)
 
   others_text : text_of others ≡ text_of rest
-  others_text = text_marks others rest others_marks
+  others_text = text_signs others rest others_signs
 
   -- the tokens after a line feed
   abbrev feed : List ℕ
@@ -221,29 +221,29 @@ module _ (at from : Chunk) (d : ℕ) (dark : IsDark d) (v x : List ℕ) (front e
   abbrev own : List Tok
   own = toks feed (0 + 1) ms
 
-  own_lexed : Lexed feed (toks feed 0 (mark kinds.Eol (10 ∷ []) ∷ ms))
-  own_lexed = lexed feed (mark kinds.Eol (10 ∷ []) ∷ ms) (blank_line false (record {
+  own_lexed : Lexed feed (toks feed 0 (sign kinds.Eol (10 ∷ []) ∷ ms))
+  own_lexed = lexed feed (sign kinds.Eol (10 ∷ []) ∷ ms) (blank_line false (record {
     is = last_lexes rest (mode earlier) start_mode false later.same (no_colon (mode earlier) start_mode) colons later.ends later.empty later.run;
   }))
 
   own_placed : Placed feed 1 own
-  own_placed = (placed feed (toks feed 0 (mark kinds.Eol (10 ∷ []) ∷ ms)) own_lexed).1
+  own_placed = (placed feed (toks feed 0 (sign kinds.Eol (10 ∷ []) ∷ ms)) own_lexed).1
 
-  own_marks : marks own ≡ marks rest
-  own_marks = marks_toks feed (0 + 1) ms ∙ sym (last_marks rest later.ends later.empty)
+  own_signs : signs own ≡ signs rest
+  own_signs = signs_toks feed (0 + 1) ms ∙ sym (last_signs rest later.ends later.empty)
 
   some : 0 < length (text_of rest)
   some = omega (arith, ap length rest_is)
 
   rest_are : rest ≡ map (moved from.offset from.line) own
-  rest_are = rest_moved (before ++ text_of rest) before rest own from.offset from.line right_moves some refl right_places own_placed own_marks
+  rest_are = rest_moved (before ++ text_of rest) before rest own from.offset from.line right_moves some refl right_places own_placed own_signs
 
   others_are : others ≡ map (moved at.offset at.line) own
   others_are =
       rest_moved text (text_of front) others own at.offset at.line left_moves (omega (arith, ap length others_text, some))
       (ap (λ y. text_of front ++ y) (sym (others_text ∙ rest_is)))
       (subst (λ n. Placed text n others) (none_more (length (text_of front))) (placed_after text front others 0 (placed text (front ++ others) lexed_text)))
-      (subst (λ y. Placed (10 ∷ y) 1 own) (sym others_text) own_placed) (own_marks ∙ sym others_marks)
+      (subst (λ y. Placed (10 ∷ y) 1 own) (sym others_text) own_placed) (own_signs ∙ sym others_signs)
 
   pub joined_tokens : Joined at from text front rest
   joined_tokens = record {

@@ -13,13 +13,13 @@ use Rattle.justfile_model.specs.Trees.Tree.{lexeme}
 use Rattle.justfile_model.proofs.Lexing.LexedLaws.{one_list}
 use Rattle.justfile_model.proofs.Lexing.NextLaws as next_law
 use Rattle.justfile_model.proofs.Lexing.NextLaws.{EndsAt, token_cut}
-use Rattle.justfile_round_trip.proofs.LiteralTexts.LexedModes.{Mark, mark, tok_at}
+use Rattle.justfile_round_trip.proofs.LiteralTexts.LexedModes.{Sign, sign, tok_at}
 use Rattle.justfile_round_trip.proofs.Values.TokenFacts.{Runs}
 use Rattle.justfile_chunks_grammar.specs.Chunks.{AreParts, Chunk, Parts, after_feed, chunks_of, first_chunk, later_chunk, moved, next_kind, text_of}
 use Rattle.justfile_chunks_grammar.proofs.OtherDedents.{IsEmptyDedent, NearToken}
 use Rattle.justfile_chunks.proofs.ChunkTokens.{Borders, Later, NextPart, Split, chunks_by, closed, first_part, from_start, next_part, onto, some_text, whole_is}
 use Rattle.justfile_chunks.proofs.MovedPlaces.{AreMoved, IsMoved, Moves, Placed, after_text, all_moved, at_start, inside, last_moved, placed, placed_after, placed_front}
-use Rattle.justfile_chunks.proofs.SameModes.{NoneIsEof, marks}
+use Rattle.justfile_chunks.proofs.SameModes.{NoneIsEof, signs}
 use Rattle.justfile_chunks.proofs.SameNext.{cons_parts}
 use Rattle.justfile_chunks.proofs.SplitRuns.{rest_utf8}
 use Rattle.justfile_chunks.proofs.TidyModes.{EndsInFeed, fed_more}
@@ -30,18 +30,18 @@ abbrev pub in_text : Chunk → Tok → Tok
 in_text chunk = moved chunk.offset chunk.line
 
 abbrev end_of_chunk : Chunk → Tok
-end_of_chunk chunk = in_text chunk (tok_at chunk.text (length chunk.text) (mark kinds.Eof []))
+end_of_chunk chunk = in_text chunk (tok_at chunk.text (length chunk.text) (sign kinds.Eof []))
 
 abbrev chunk_by : Bool → List Tok → Chunk
 chunk_by true part = first_chunk part
 chunk_by false part = later_chunk part
 
-abbrev feed_mark : Mark
-feed_mark = mark kinds.Eol (10 ∷ [])
+abbrev feed_sign : Sign
+feed_sign = sign kinds.Eol (10 ∷ [])
 
 abbrev pub borders : Borders
 borders = record {
-  feed = λ part. in_text (later_chunk part) (tok_at (after_feed part) 0 feed_mark);
+  feed = λ part. in_text (later_chunk part) (tok_at (after_feed part) 0 feed_sign);
   eof = λ first part. end_of_chunk (chunk_by first part);
   feed_kind = λ part. refl;
   feed_text = λ part. refl;
@@ -51,7 +51,7 @@ borders = record {
 
 -- The tokens of the chunk, moved, are these, except for dedents.
 pub record NearChunk (chunk : Chunk) (tokens : List Tok) : Type 0 where
-  pub near : (us : List Tok) → Lexed chunk.text us → marks us ≡ marks tokens → AllZip NearToken tokens (map (in_text chunk) us)
+  pub near : (us : List Tok) → Lexed chunk.text us → signs us ≡ signs tokens → AllZip NearToken tokens (map (in_text chunk) us)
 
 -- ---- tokens with bytes, and dedents
 
@@ -84,10 +84,10 @@ near_itself ts us e = subst (AllZip NearToken ts) e (by ts)
     by (t ∷ ts) = (inl refl, by ts)
 
 -- the token that stands at an offset, and is this one
-pub stands : (text : List ℕ) (k : ℕ) (u : Tok) (m : Mark) → StandsAt text k u → mark u.kind u.lexeme ≡ m → u ≡ tok_at text k m
+pub stands : (text : List ℕ) (k : ℕ) (u : Tok) (m : Sign) → StandsAt text k u → sign u.kind u.lexeme ≡ m → u ≡ tok_at text k m
 stands text k u m s e = place ∙ ap (tok_at text k) e
   where
-    place : u ≡ tok_at text k (mark u.kind u.lexeme)
+    place : u ≡ tok_at text k (sign u.kind u.lexeme)
     place = λ i. record {
       kind = u.kind;
       lexeme = u.lexeme;
@@ -99,33 +99,33 @@ stands text k u m s e = place ∙ ap (tok_at text k) e
 -- a part and the end of its chunk
 module _ (c : Chunk) where
   abbrev end_at : ℕ → Tok
-  end_at n = in_text c (tok_at c.text n (mark kinds.Eof []))
+  end_at n = in_text c (tok_at c.text n (sign kinds.Eof []))
 
-  near_end : (us : List Tok) (k : ℕ) → Placed c.text k us → marks us ≡ mark kinds.Eof [] ∷ [] → AllZip NearToken (end_at k ∷ []) (map (in_text c) us)
+  near_end : (us : List Tok) (k : ℕ) → Placed c.text k us → signs us ≡ sign kinds.Eof [] ∷ [] → AllZip NearToken (end_at k ∷ []) (map (in_text c) us)
   near_end [] k p e = cc
   near_end (u ∷ us) k p e =
-      let h = cons_parts (mark u.kind u.lexeme) (mark kinds.Eof []) (marks us) [] e in
-      (inl (sym (ap (in_text c) (stands c.text k u (mark kinds.Eof []) p.0 h.0))), none us h.1)
+      let h = cons_parts (sign u.kind u.lexeme) (sign kinds.Eof []) (signs us) [] e in
+      (inl (sym (ap (in_text c) (stands c.text k u (sign kinds.Eof []) p.0 h.0))), none us h.1)
     where
-      none : (us : List Tok) → marks us ≡ [] → AllZip NearToken [] (map (in_text c) us)
+      none : (us : List Tok) → signs us ≡ [] → AllZip NearToken [] (map (in_text c) us)
       none [] e = tt
       none (w ∷ us) e = cc
 
   near_part : (part us : List Tok) (k : ℕ) → AreMoved c.offset c.line part us → AllByRecursion HasBytes part → Placed c.text k us
-      → marks us ≡ marks part ++ (mark kinds.Eof [] ∷ [])
+      → signs us ≡ signs part ++ (sign kinds.Eof [] ∷ [])
       → AllZip NearToken (part ++ (end_at (k + length (text_of part)) ∷ [])) (map (in_text c) us)
   near_part [] us k m b p e = subst (λ n. AllZip NearToken (end_at n ∷ []) (map (in_text c) us)) (omega arith) (near_end us k p e)
   near_part (t ∷ part) [] k m b p e = absurd m
   near_part (t ∷ part) (u ∷ us) k m b p e =
-      let h = cons_parts (mark u.kind u.lexeme) (mark t.kind t.lexeme) (marks us) (marks part ++ (mark kinds.Eof [] ∷ [])) e in (
+      let h = cons_parts (sign u.kind u.lexeme) (sign t.kind t.lexeme) (signs us) (signs part ++ (sign kinds.Eof [] ∷ [])) e in (
         near_one c.offset c.line m.0 b.0,
         subst (λ n. AllZip NearToken (part ++ (end_at n ∷ [])) (map (in_text c) us))
             (omega (arith, ap length m.0.lexeme, length-append t.lexeme (text_of part)))
             (near_part part us (k + length u.lexeme) m.1 b.1 p.1 h.1),
       )
 
-marks_closed : (part : List Tok) (t : Tok) → marks (part ++ (t ∷ [])) ≡ marks part ++ (mark t.kind t.lexeme ∷ [])
-marks_closed part t = map-append (λ (t : Tok). mark t.kind t.lexeme) part (t ∷ [])
+signs_closed : (part : List Tok) (t : Tok) → signs (part ++ (t ∷ [])) ≡ signs part ++ (sign t.kind t.lexeme ∷ [])
+signs_closed part t = map-append (λ (t : Tok). sign t.kind t.lexeme) part (t ∷ [])
 
 -- ---- chunks
 
@@ -137,11 +137,11 @@ first_near : (text rest : List ℕ) (part : List Tok) → text ≡ text_of part 
 first_near text rest part is h bytes = record {
   near = λ us l e.
       let p = text_of part in
-      let marked : marks us ≡ marks part ++ (mark kinds.Eof [] ∷ []) = e ∙ marks_closed part (end_of_chunk (first_chunk part)) in
+      let marked : signs us ≡ signs part ++ (sign kinds.Eof [] ∷ []) = e ∙ signs_closed part (end_of_chunk (first_chunk part)) in
       let whole : Placed (p ++ rest) 0 part = subst (λ x. Placed x 0 part) is h in
       let chunk : Placed (p ++ []) 0 us = subst (λ x. Placed x 0 us) (sym (append-nil p)) (placed p us l) in
       subst (λ n. AllZip NearToken (part ++ (end_at (first_chunk part) n ∷ [])) (map (in_text (first_chunk part)) us)) (omega arith)
-      (near_part (first_chunk part) part us 0 (all_moved [] [] p rest [] 0 0 at_start part us (mark kinds.Eof [] ∷ []) 0 whole chunk marked (omega arith)) bytes
+      (near_part (first_chunk part) part us 0 (all_moved [] [] p rest [] 0 0 at_start part us (sign kinds.Eof [] ∷ []) 0 whole chunk marked (omega arith)) bytes
       (placed p us l) marked);
 }
 
@@ -172,27 +172,27 @@ module _ (text before rest : List ℕ) (t : Tok) (part : List Tok) (feed : EndsI
       subst (λ x. Placed (10 ∷ x) (1 + 0) us) (sym (append-nil p)) (subst (λ n. Placed (10 ∷ p) n us) (omega (arith, one)) (placed (10 ∷ p) (u ∷ us) l).1)
 
   -- the line feed before the part, and the other tokens of the chunk
-  near_feed : (us tokens : List Tok) → Lexed (after_feed (t ∷ part)) us → marks us ≡ feed_mark ∷ marks tokens
-      → ((u : Tok) (others : List Tok) → Lexed (after_feed (t ∷ part)) (u ∷ others) → length u.lexeme ≡ 1 → marks others ≡ marks tokens
+  near_feed : (us tokens : List Tok) → Lexed (after_feed (t ∷ part)) us → signs us ≡ feed_sign ∷ signs tokens
+      → ((u : Tok) (others : List Tok) → Lexed (after_feed (t ∷ part)) (u ∷ others) → length u.lexeme ≡ 1 → signs others ≡ signs tokens
       → AllZip NearToken tokens (map (in_text (later_chunk (t ∷ part))) others))
       → AllZip NearToken (borders.feed (t ∷ part) ∷ tokens) (map (in_text (later_chunk (t ∷ part))) us)
   near_feed [] tokens l e more = cc
   near_feed (u ∷ us) tokens l e more =
-      let h = cons_parts (mark u.kind u.lexeme) feed_mark (marks us) (marks tokens) e in (
+      let h = cons_parts (sign u.kind u.lexeme) feed_sign (signs us) (signs tokens) e in (
         inl (sym (ap (in_text (later_chunk (t ∷ part)))
-            (stands (after_feed (t ∷ part)) 0 u feed_mark (placed (after_feed (t ∷ part)) (u ∷ us) l).0 h.0))),
-        more u us l (ap (λ (m : Mark). length m.lexeme) h.0) h.1,
+            (stands (after_feed (t ∷ part)) 0 u feed_sign (placed (after_feed (t ∷ part)) (u ∷ us) l).0 h.0))),
+        more u us l (ap (λ (m : Sign). length m.lexeme) h.0) h.1,
       )
 
   later_near : AllByRecursion HasBytes (t ∷ part) → NearChunk (later_chunk (t ∷ part)) (borders.feed (t ∷ part) ∷ closed borders false (t ∷ part))
   later_near bytes = record {
     near = λ us l e. near_feed us (closed borders false (t ∷ part)) l e (λ u others l one marked.
         let p = text_of (t ∷ part) in
-        let end : marks others ≡ marks (t ∷ part) ++ (mark kinds.Eof [] ∷ []) = marked ∙ marks_closed (t ∷ part) (end_of_chunk (later_chunk (t ∷ part))) in
+        let end : signs others ≡ signs (t ∷ part) ++ (sign kinds.Eof [] ∷ []) = marked ∙ signs_closed (t ∷ part) (end_of_chunk (later_chunk (t ∷ part))) in
         subst (λ n. AllZip NearToken (t ∷ part ++ (end_at (later_chunk (t ∷ part)) n ∷ [])) (map (in_text (later_chunk (t ∷ part))) others))
         (one_more (length p))
         (near_part (later_chunk (t ∷ part)) (t ∷ part) others 1
-        (all_moved before (10 ∷ []) p rest [] (t.offset - 1) (t.line - 1) by_first (t ∷ part) others (mark kinds.Eof [] ∷ []) 0 in_whole
+        (all_moved before (10 ∷ []) p rest [] (t.offset - 1) (t.line - 1) by_first (t ∷ part) others (sign kinds.Eof [] ∷ []) 0 in_whole
         (in_chunk u others l one) end (omega arith))
         bytes (subst (λ n. Placed (10 ∷ p) n others) (omega (arith, one)) (placed (10 ∷ p) (u ∷ others) l).1) end));
   }

@@ -10,10 +10,10 @@ use Rattle.justfile_model.specs.Lexing.Lexed.{Begins, Lexed, StandsAt, end_of}
 use Rattle.justfile_model.specs.Lexing.Places.{column_at, is_line_feed, last_line_start, line_of_offset, text_before}
 use Rattle.justfile_model.specs.Lexing.Tok.{Tok}
 use Rattle.justfile_model.proofs.Lexing.UnclosedLaws.{reverse_more}
-use Rattle.justfile_round_trip.proofs.LiteralTexts.LexedModes.{Mark, mark}
+use Rattle.justfile_round_trip.proofs.LiteralTexts.LexedModes.{Sign, sign}
 use Rattle.justfile_chunks_grammar.specs.Chunks.{moved, text_of}
 use Rattle.justfile_chunks.proofs.FeedTexts.{run_same}
-use Rattle.justfile_chunks.proofs.SameModes.{marks}
+use Rattle.justfile_chunks.proofs.SameModes.{signs}
 use Rattle.justfile_chunks.proofs.SameNext.{cons_parts}
 use Rattle.justfile_chunks.proofs.SplitRuns.{in_order}
 
@@ -131,15 +131,15 @@ module _ (a b p r s : List ℕ) (offset line : ℕ) (m : Moves a b offset line) 
       ∙ sym (y.column_is ∙ ap (column_at (b ++ (p ++ s))) y.offset_is) in
       λ i. record { kind = kind i; lexeme = same i; offset = offset_is i; line = line_is i; column = column_is i }
 
-  pub all_moved : (ts us : List Tok) (ms : List Mark) (k : ℕ) → Placed (a ++ (p ++ r)) (length a + k) ts → Placed (b ++ (p ++ s)) (length b + k) us
-      → marks us ≡ marks ts ++ ms → k + length (text_of ts) ≤ length p
+  pub all_moved : (ts us : List Tok) (ms : List Sign) (k : ℕ) → Placed (a ++ (p ++ r)) (length a + k) ts → Placed (b ++ (p ++ s)) (length b + k) us
+      → signs us ≡ signs ts ++ ms → k + length (text_of ts) ≤ length p
       → AreMoved offset line ts us
   all_moved [] us ms k x y e l = tt
   all_moved (t ∷ ts) [] ms k x y e l = cc
   all_moved (t ∷ ts) (u ∷ us) ms k x y e l =
-      let h = cons_parts (mark u.kind u.lexeme) (mark t.kind t.lexeme) (marks us) (marks ts ++ ms) e in
-      let kind : t.kind ≡ u.kind = ap (λ (m : Mark). m.kind) (sym h.0) in
-      let same : t.lexeme ≡ u.lexeme = ap (λ (m : Mark). m.lexeme) (sym h.0) in
+      let h = cons_parts (sign u.kind u.lexeme) (sign t.kind t.lexeme) (signs us) (signs ts ++ ms) e in
+      let kind : t.kind ≡ u.kind = ap (λ (m : Sign). m.kind) (sym h.0) in
+      let same : t.lexeme ≡ u.lexeme = ap (λ (m : Sign). m.lexeme) (sym h.0) in
       let n = length t.lexeme in
       let size : length (t.lexeme ++ text_of ts) ≡ n + length (text_of ts) = length-append t.lexeme (text_of ts) in (
         record {
@@ -168,16 +168,16 @@ module _ (a b p : List ℕ) (offset line : ℕ) (m : Moves a b offset line) (som
       (subst (λ j. StandsAt (a ++ (p ++ [])) (length a + j) t) e x) (subst (λ j. StandsAt (b ++ (p ++ [])) (length b + j) u) e y) kind same)
       (cases_lt k (length p))
 
-  pub last_moved : (ts us : List Tok) (k : ℕ) → Placed (a ++ (p ++ [])) (length a + k) ts → Placed (b ++ (p ++ [])) (length b + k) us → marks us ≡ marks ts
+  pub last_moved : (ts us : List Tok) (k : ℕ) → Placed (a ++ (p ++ [])) (length a + k) ts → Placed (b ++ (p ++ [])) (length b + k) us → signs us ≡ signs ts
       → k + length (text_of ts) ≤ length p
       → ts ≡ map (moved offset line) us
   last_moved [] [] k x y e l = refl
   last_moved (t ∷ ts) (u ∷ us) k x y e l =
-      let h = cons_parts (mark u.kind u.lexeme) (mark t.kind t.lexeme) (marks us) (marks ts) e in
-      let same : t.lexeme ≡ u.lexeme = ap (λ (m : Mark). m.lexeme) (sym h.0) in
+      let h = cons_parts (sign u.kind u.lexeme) (sign t.kind t.lexeme) (signs us) (signs ts) e in
+      let same : t.lexeme ≡ u.lexeme = ap (λ (m : Sign). m.lexeme) (sym h.0) in
       let n = length t.lexeme in
       let size : length (t.lexeme ++ text_of ts) ≡ n + length (text_of ts) = length-append t.lexeme (text_of ts) in
-      let first : t ≡ moved offset line u = place_moved t u k (omega (arith, l, size)) x.0 y.0 (ap (λ (m : Mark). m.kind) (sym h.0)) same in
+      let first : t ≡ moved offset line u = place_moved t u k (omega (arith, l, size)) x.0 y.0 (ap (λ (m : Sign). m.kind) (sym h.0)) same in
       let others : ts ≡ map (moved offset line) us = last_moved ts us (k + n)
       (subst (λ j. Placed (a ++ (p ++ [])) j ts) (omega arith) x.1) (subst (λ j. Placed (b ++ (p ++ [])) j us) (omega (arith, ap length same)) y.1) h.1
       (omega (arith, l, size)) in

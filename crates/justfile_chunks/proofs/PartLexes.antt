@@ -9,12 +9,12 @@ use Rattle.justfile_model.specs.Lexing.Next.{NextToken, next}
 use Rattle.justfile_model.specs.Lexing.Tok.{Tok}
 use Rattle.justfile_model.specs.Trees.Tree.{lexeme}
 use Rattle.justfile_round_trip.proofs.LiteralTexts.FormatScans.{same_front}
-use Rattle.justfile_round_trip.proofs.LiteralTexts.LexedModes.{LexesIn, mark, tok_at}
+use Rattle.justfile_round_trip.proofs.LiteralTexts.LexedModes.{LexesIn, sign, tok_at}
 use Rattle.justfile_round_trip.proofs.Values.TokenFacts.{Runs}
 use Rattle.justfile_chunks.proofs.SplitRuns.{rest_utf8}
 use Rattle.justfile_chunks.proofs.PartSteps.{Uncut, kind_is, len_is, part_step}
 use Rattle.justfile_chunks_grammar.proofs.Colons.{IndentsHaveColons, NeedsColon, colon_after}
-use Rattle.justfile_chunks.proofs.SameModes.{HaveColon, NoneIsEof, both_indent, colons_kept, marks, mode_past, same_after, some_same}
+use Rattle.justfile_chunks.proofs.SameModes.{HaveColon, NoneIsEof, both_indent, colons_kept, signs, mode_past, same_after, some_same}
 use Rattle.justfile_chunks.proofs.SameNext.{SameFound, SameMode, same_next}
 use Rattle.justfile_chunks.proofs.TidyModes.{Fed, Tidy, fed_suffix, tidy_after}
 
@@ -90,14 +90,14 @@ module _ (v : List ℕ) (later : List Tok) (some : 0 < length v) (more : 0 < len
   -- the text of the part is lexed to its tokens
   pub part_lexes : (ts earlier : List Tok) (n : Mode) (colon : Bool) → IsPart ts earlier n colon → IndentsHaveColons colon ts
       → SameMode (mode_past (mode earlier) ts) start_mode
-      → (text : List ℕ) (offset : ℕ) → LexesIn text offset n (flat_map lexeme ts) (marks ts)
+      → (text : List ℕ) (offset : ℕ) → LexesIn text offset n (flat_map lexeme ts) (signs ts)
   part_lexes [] earlier n colon p c e text offset = (
     refl,
     some_same (kinds.Eof, 0) _ _ (same_next (mode earlier) n [] p.same)
         (ends_like_start (mode earlier) e),
   )
   part_lexes (t ∷ ts) earlier n colon p c e text offset =
-      let u = tok_at text offset (mark t.kind t.lexeme) in (
+      let u = tok_at text offset (sign t.kind t.lexeme) in (
         flat_map lexeme ts,
         refl,
         found t ts earlier n colon p,
@@ -138,22 +138,22 @@ but_last [] = []
 but_last (t ∷ []) = []
 but_last (t ∷ u ∷ ts) = t ∷ but_last (u ∷ ts)
 
-pub last_marks : (ts : List Tok) → EndsOnce ts → EndsEmpty ts → marks ts ≡ marks (but_last ts) ++ (mark kinds.Eof [] ∷ [])
-last_marks [] o e = absurd o
-last_marks (t ∷ []) o e = λ i. mark (o i) (e i) ∷ []
-last_marks (t ∷ u ∷ ts) o e = ap (λ ms. mark t.kind t.lexeme ∷ ms) (last_marks (u ∷ ts) o.1 e)
+pub last_signs : (ts : List Tok) → EndsOnce ts → EndsEmpty ts → signs ts ≡ signs (but_last ts) ++ (sign kinds.Eof [] ∷ [])
+last_signs [] o e = absurd o
+last_signs (t ∷ []) o e = λ i. sign (o i) (e i) ∷ []
+last_signs (t ∷ u ∷ ts) o e = ap (λ ms. sign t.kind t.lexeme ∷ ms) (last_signs (u ∷ ts) o.1 e)
 
 -- the text up to the end is lexed to its tokens
 pub last_lexes : (ts : List Tok) (m n : Mode) (colon : Bool) → SameMode m n → HaveColon colon m n → IndentsHaveColons colon ts → EndsOnce ts → EndsEmpty ts
     → Runs m (flat_map lexeme ts) ts
-    → (text : List ℕ) (offset : ℕ) → LexesIn text offset n (flat_map lexeme ts) (marks (but_last ts))
+    → (text : List ℕ) (offset : ℕ) → LexesIn text offset n (flat_map lexeme ts) (signs (but_last ts))
 last_lexes [] m n colon s h c o e r text offset = absurd o
 last_lexes (t ∷ []) m n colon s h c o e r text offset =
     let none : flat_map lexeme (t ∷ []) ≡ [] = append-nil t.lexeme ∙ e in
     let found : next m [] ≡ Ok (kinds.Eof, 0) = sym (ap (next m) none) ∙ r.2 ∙ (λ i. Ok (o i, length (e i))) in
     (none, some_same (kinds.Eof, 0) _ _ (same_next m n [] s) found)
 last_lexes (t ∷ w ∷ ts) m n colon s h c o e r text offset =
-    let u = tok_at text offset (mark t.kind t.lexeme) in
+    let u = tok_at text offset (sign t.kind t.lexeme) in
     let rest = flat_map lexeme (w ∷ ts) in
     let following : r.0 ≡ rest = sym (same_front t.lexeme rest t.lexeme r.0 r.1 refl).1 in (
       rest,

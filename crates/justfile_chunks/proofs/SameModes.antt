@@ -9,7 +9,7 @@ use Rattle.justfile_model.specs.declared.open_delimiter.OpenDelimiter.{OpenDelim
 use Rattle.justfile_model.specs.Lexing.Modes.{Mode, ends_in_line_feed, mode_after, tail_of}
 use Rattle.justfile_model.specs.Lexing.Next.{NextToken}
 use Rattle.justfile_model.specs.Lexing.Tok.{Tok}
-use Rattle.justfile_round_trip.proofs.LiteralTexts.LexedModes.{Mark, mark}
+use Rattle.justfile_round_trip.proofs.LiteralTexts.LexedModes.{Sign, sign}
 use Rattle.justfile_chunks_grammar.proofs.Colons.{NeedsColon, colon_after}
 use Rattle.justfile_chunks.proofs.SameNext.{SameFound, SameMode, delimiters, found}
 
@@ -87,8 +87,8 @@ both_indent _ m n colon h e = tt
 
 -- ---- tokens
 
-abbrev pub marks : List Tok → List Mark
-marks ts = map (λ t. mark t.kind t.lexeme) ts
+abbrev pub signs : List Tok → List Sign
+signs ts = map (λ t. sign t.kind t.lexeme) ts
 
 -- the mode after these tokens
 abbrev pub mode_past : Mode → List Tok → Mode

@@ -11,7 +11,7 @@ use Rattle.justfile_token.specs.declared.name.Name.{Name}
 use Rattle.justfile_token.specs.declared.token.Token.{Token}
 use Rattle.justfile_token.specs.declared.string_literal.StringLiteral.{StringLiteral}
 use Rattle.justfile_model.specs.Trees.ExpressionCases.{case_node}
-use Rattle.justfile_model.specs.Trees.Key.{Key, label, end, next, row, keys_of, key_cmp, keys_cmp}
+use Rattle.justfile_model.specs.Trees.Key.{Key, label, end, next, sequence, keys_of, key_cmp, keys_cmp}
 use Rattle.justfile_model.specs.declared.expression_case.ExpressionCase.TheVariants as cases
 use Rattle.justfile_model.specs.Trees.KeyLaws.{then_end}
 use Rattle.justfile_model.specs.declared.conditional_operator.ConditionalOperator.{ConditionalOperator}
@@ -85,10 +85,10 @@ parts_are n format_row_end = refl
 parts_are n (format_row_more e part others) = ap (next (part_key (e, part))) (parts_are _ others)
 
 abbrev call_key : Name → List Expression → Key KeyLeaf
-call_key name arguments = case_node cases.Call (next (token_key name.token) (next (row (keys_of key arguments)) end))
+call_key name arguments = case_node cases.Call (next (token_key name.token) (next (sequence (keys_of key arguments)) end))
 
 abbrev format_key : StringLiteral → List (Expression × StringLiteral) → Key KeyLeaf
-format_key start expressions = case_node cases.FormatString (next (literal_key start) (next (row (keys_of part_key expressions)) end))
+format_key start expressions = case_node cases.FormatString (next (literal_key start) (next (sequence (keys_of part_key expressions)) end))
 
 abbrev assert_key : Expression → Option (Box Expression) → Name → Key KeyLeaf
 assert_key condition message name = case_node cases.Assert (next (key condition) (next (option_key message) (next (token_key name.token) end)))
@@ -98,7 +98,7 @@ conditional_key condition branch otherwise =
     case_node cases.Conditional (next (key condition) (next (key branch) (next (option_presence otherwise) end)))
 
 abbrev list_key : List Expression → Token → Key KeyLeaf
-list_key elements opener = case_node cases.List (next (row (keys_of key elements)) (next (token_key opener) end))
+list_key elements opener = case_node cases.List (next (sequence (keys_of key elements)) (next (token_key opener) end))
 
 key_assert : (condition : Box Expression) (message : Option (Box Expression)) (name : Name) → assert_key condition.value message name ≡ key (Assert condition message name)
 key_assert condition None name = refl
@@ -112,17 +112,17 @@ key_conditional condition branch (Some otherwise) = refl
 key_call : (name : Name) (v : Vec Expression) → call_key name v.items ≡ key (Call name v)
 key_call name v =
     let items = row_of (Call name v) in
-    ap (λ ks. case_node cases.Call (next (token_key name.token) (next (row ks) end))) (sym (row_is items.0 items.1 ∙ ap (keys_of key) (items_hidden-the_row-Expression-0 v)))
+    ap (λ ks. case_node cases.Call (next (token_key name.token) (next (sequence ks) end))) (sym (row_is items.0 items.1 ∙ ap (keys_of key) (items_hidden-the_row-Expression-0 v)))
 
 key_format : (start : StringLiteral) (v : Vec (Expression × StringLiteral)) → format_key start v.items ≡ key (FormatString start v)
 key_format start v =
     let items = part_row_of (FormatString start v) in
-    ap (λ ks. case_node cases.FormatString (next (literal_key start) (next (row ks) end))) (sym (parts_are items.0 items.1 ∙ ap (keys_of part_key) (items_hidden-the_row-Expression-FormatString-1-2-1 v)))
+    ap (λ ks. case_node cases.FormatString (next (literal_key start) (next (sequence ks) end))) (sym (parts_are items.0 items.1 ∙ ap (keys_of part_key) (items_hidden-the_row-Expression-FormatString-1-2-1 v)))
 
 key_list : (v : Vec Expression) (opener : Token) → list_key v.items opener ≡ key (List_of v opener)
 key_list v opener =
     let items = row_of (List_of v opener) in
-    ap (λ ks. case_node cases.List (next (row ks) (next (token_key opener) end))) (sym (row_is items.0 items.1 ∙ ap (keys_of key) (items_hidden-the_row-Expression-0 v)))
+    ap (λ ks. case_node cases.List (next (sequence ks) (next (token_key opener) end))) (sym (row_is items.0 items.1 ∙ ap (keys_of key) (items_hidden-the_row-Expression-0 v)))
 
 -- ---- the result of the function of each case, if leaves compare by R
 

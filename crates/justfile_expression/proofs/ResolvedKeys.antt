@@ -5,7 +5,7 @@ use Rattle.justfile_numbers.specs.declared.number.Number.{Number}
 use Rattle.justfile_model.specs.Trees.ContentKeys.{expr_key}
 use Rattle.justfile_model.specs.Trees.ContentLeaf.{unseen}
 use Rattle.justfile_model.specs.Trees.ExpressionCases.{case_node}
-use Rattle.justfile_model.specs.Trees.Key.{leaf, end, next, row, present_key, map_key, map_keys}
+use Rattle.justfile_model.specs.Trees.Key.{leaf, end, next, sequence, present_key, map_key, map_keys}
 use Rattle.justfile_model.specs.declared.expression_case.ExpressionCase.TheVariants as cases
 use Rattle.justfile_expression.specs.Content.{content_key, content_of}
 use Rattle.justfile_expression.specs.Leaf.{literal_key, operator_key, text_key, token_key}
@@ -27,7 +27,7 @@ module _ (numbers : (name : List ℕ) → Option Number) where
     kept_content (Backtick contents t) (Backtick contents' t') is =
         λ i. case_node cases.Backtick (next (map_key content_of (text_key (string_bytes (is.0 i)))) (next (map_key content_of (token_key (is.1 i))) end))
     kept_content (Call' name m arguments) (Call' name' n arguments') is =
-        λ i. case_node cases.Call (next (map_key content_of (token_key (is.0 i).token)) (next (row (kept_row _ _ arguments arguments' is.1 i)) end))
+        λ i. case_node cases.Call (next (map_key content_of (token_key (is.0 i).token)) (next (sequence (kept_row _ _ arguments arguments' is.1 i)) end))
     kept_content (Comparison' p lhs o q rhs t) (Comparison' p' lhs' o' q' rhs' t') is =
         λ i. case_node cases.Comparison (next (kept_content lhs lhs' is.0 i) (next (map_key content_of (operator_key (is.1 i)))
         (next (kept_content rhs rhs' is.2 i) (next (map_key content_of (token_key (is.3 i))) end))))
@@ -36,12 +36,12 @@ module _ (numbers : (name : List ℕ) → Option Number) where
     kept_content (Conditional' p condition q branch otherwise) (Conditional' p' condition' q' branch' otherwise') is =
         λ i. case_node cases.Conditional (next (kept_content condition condition' is.0 i) (next (kept_content branch branch' is.1 i) (next (kept_optional otherwise otherwise' is.2 i) end)))
     kept_content (FormatString' start m parts) (FormatString' start' n parts') is =
-        λ i. case_node cases.FormatString (next (map_key content_of (literal_key (is.0 i))) (next (row (kept_parts _ _ parts parts' is.1 i)) end))
+        λ i. case_node cases.FormatString (next (map_key content_of (literal_key (is.0 i))) (next (sequence (kept_parts _ _ parts parts' is.1 i)) end))
     kept_content (Group' p contents) (Group' p' contents') is = λ i. case_node cases.Group (next (kept_content contents contents' is i) end)
     kept_content (Join' lhs t q rhs) (Join' lhs' t' q' rhs') is =
         λ i. case_node cases.Join (next (kept_optional lhs lhs' is.0 i) (next (map_key content_of (token_key (is.1 i))) (next (kept_content rhs rhs' is.2 i) end)))
     kept_content (List' m elements opener) (List' n elements' opener') is =
-        λ i. case_node cases.List (next (row (kept_row _ _ elements elements' is.0 i)) (next (map_key content_of (token_key (is.1 i))) end))
+        λ i. case_node cases.List (next (sequence (kept_row _ _ elements elements' is.0 i)) (next (map_key content_of (token_key (is.1 i))) end))
     kept_content (ListConcatenation' p lhs t q rhs) (ListConcatenation' p' lhs' t' q' rhs') is =
         λ i. case_node cases.ListConcatenation (next (kept_content lhs lhs' is.0 i) (next (map_key content_of (token_key (is.1 i))) (next (kept_content rhs rhs' is.2 i) end)))
     kept_content (Not' p operand) (Not' p' operand') is = λ i. case_node cases.Not (next (kept_content operand operand' is i) end)
@@ -70,7 +70,7 @@ module _ (numbers : (name : List ℕ) → Option Number) where
         → map_keys content_of (row_parts resolved) ≡ map_keys content_of (row_parts originals)
     kept_parts m n format_row_end format_row_end is = refl
     kept_parts m n (format_row_more e l es) (format_row_more e' l' es') is =
-        λ i. next (row (next (kept_content e e' is.0 i) (next (map_key content_of (literal_key (is.1 i))) end))) (kept_parts _ _ es es' is.2 i)
+        λ i. next (sequence (next (kept_content e e' is.0 i) (next (map_key content_of (literal_key (is.1 i))) end))) (kept_parts _ _ es es' is.2 i)
     kept_parts m n format_row_end (format_row_more e' l' es') is = absurd is
     kept_parts m n (format_row_more e l es) format_row_end is = absurd is
 

@@ -5,55 +5,55 @@ use Rattle.std.proofs.lemmas.List.Elements.{All-nil, All-push, All-pop}
 use Rattle.std.specs.Borrow.{Bor}
 use Rattle.std.specs.Global.{Box}
 use Rattle.std.specs.List.{All}
-use Rattle.justfile_expression.specs.RightSides.{right_side, IsLessDeep, IsRow, IsCopied}
+use Rattle.justfile_expression.specs.RightSides.{right_side, IsLessDeep, IsChain, IsCopied}
 use Rattle.justfile_expression.specs.declared.expression.Expression.{Expression, size-Expression}
 
--- a measure of what is left of a row: the size of its next expression
-abbrev pub row_left : Option (Bor Expression) → ℕ
-row_left None = 0
-row_left (Some e) = size-Expression e.now + 1
+-- a measure of what is left of a chain: the size of its next expression
+abbrev pub chain_left : Option (Bor Expression) → ℕ
+chain_left None = 0
+chain_left (Some e) = size-Expression e.now + 1
 
 -- the measure falls from an expression to its right side
 pub falls : (e : Expression) (answer : Option (Bor Expression))
-    → IfSome answer (IsLessDeep e) → row_left answer < size-Expression e + 1
+    → IfSome answer (IsLessDeep e) → chain_left answer < size-Expression e + 1
 falls e None smaller = omega arith
 falls e (Some r) smaller = omega (arith, smaller)
 
 -- a bound on what is left bounds the next expression
-pub next_shallow : (rest : Option (Bor Expression)) (next : Bor Expression) (n : ℕ) → rest ≡ Some next → row_left rest ≤ n → size-Expression next.now + 1 ≤ n
-next_shallow rest next n is h = subst (λ (r : Option (Bor Expression)). row_left r ≤ n) is h
+pub next_shallow : (rest : Option (Bor Expression)) (next : Bor Expression) (n : ℕ) → rest ≡ Some next → chain_left rest ≤ n → size-Expression next.now + 1 ≤ n
+next_shallow rest next n is h = subst (λ (r : Option (Bor Expression)). chain_left r ≤ n) is h
 
--- a row without expressions yet
-pub begun : (row : List (Bor Expression)) (whole : Expression) (right : Option Expression) → row ≡ [] → right ≡ right_side whole → IsRow (reverse row) whole right
-begun row whole right is h = subst (λ (l : List (Bor Expression)). IsRow (reverse l) whole right) (sym is) (sym h)
+-- a chain without expressions yet
+pub begun : (chain : List (Bor Expression)) (whole : Expression) (right : Option Expression) → chain ≡ [] → right ≡ right_side whole → IsChain (reverse chain) whole right
+begun chain whole right is h = subst (λ (l : List (Bor Expression)). IsChain (reverse l) whole right) (sym is) (sym h)
 
--- a row with one more expression
-pub pushed : (row more : List (Bor Expression)) (e : Bor Expression) (whole : Expression) (right : Option Expression) → more ≡ row ++ (e ∷ []) → right ≡ right_side e.now → IsRow (reverse row) whole (Some e.now) → IsRow (reverse more) whole right
-pushed row more e whole right is h in_row = subst (λ (l : List (Bor Expression)). IsRow l whole right) (sym (ap reverse is ∙ reverse-append row (e ∷ []))) (sym h, in_row)
+-- a chain with one more expression
+pub pushed : (chain more : List (Bor Expression)) (e : Bor Expression) (whole : Expression) (right : Option Expression) → more ≡ chain ++ (e ∷ []) → right ≡ right_side e.now → IsChain (reverse chain) whole (Some e.now) → IsChain (reverse more) whole right
+pushed chain more e whole right is h in_chain = subst (λ (l : List (Bor Expression)). IsChain l whole right) (sym (ap reverse is ∙ reverse-append chain (e ∷ []))) (sym h, in_chain)
 
--- a row with one expression less
-pub popped : (row less : List (Bor Expression)) (e : Bor Expression) (whole : Expression) (right : Option Expression) → row ≡ less ++ (e ∷ []) → IsRow (reverse row) whole right → (right_side e.now ≡ right) × IsRow (reverse less) whole (Some e.now)
-popped row less e whole right is in_row = subst (λ (l : List (Bor Expression)). IsRow l whole right) (ap reverse is ∙ reverse-append less (e ∷ [])) in_row
+-- a chain with one expression less
+pub popped : (chain less : List (Bor Expression)) (e : Bor Expression) (whole : Expression) (right : Option Expression) → chain ≡ less ++ (e ∷ []) → IsChain (reverse chain) whole right → (right_side e.now ≡ right) × IsChain (reverse less) whole (Some e.now)
+popped chain less e whole right is in_chain = subst (λ (l : List (Bor Expression)). IsChain l whole right) (ap reverse is ∙ reverse-append less (e ∷ [])) in_chain
 
--- a row without expressions
-pub emptied : (row : List (Bor Expression)) (whole : Expression) (right : Option Expression) → length row ≡ 0 → IsRow (reverse row) whole right → right_side whole ≡ right
-emptied [] whole right e in_row = in_row
-emptied (x ∷ xs) whole right e in_row = absurd (omega arith)
+-- a chain without expressions
+pub emptied : (chain : List (Bor Expression)) (whole : Expression) (right : Option Expression) → length chain ≡ 0 → IsChain (reverse chain) whole right → right_side whole ≡ right
+emptied [] whole right e in_chain = in_chain
+emptied (x ∷ xs) whole right e in_chain = absurd (omega arith)
 
 -- `IsCopied` for an equal right side
 pub copied : (copy : Option (Box Expression)) (right other : Option Expression) → other ≡ right → IsCopied copy right → IsCopied copy other
 copied copy right other is same = subst (λ (o : Option Expression). IsCopied copy o) (sym is) same
 
--- for a row without expressions, all are less deep
-pub none_deep : (row : List (Bor Expression)) (whole : Expression) → row ≡ [] → All (IsLessDeep whole) row
-none_deep row whole is = subst (λ (l : List (Bor Expression)). All (IsLessDeep whole) l) (sym is) (All-nil (IsLessDeep whole))
+-- for a chain without expressions, all are less deep
+pub none_deep : (chain : List (Bor Expression)) (whole : Expression) → chain ≡ [] → All (IsLessDeep whole) chain
+none_deep chain whole is = subst (λ (l : List (Bor Expression)). All (IsLessDeep whole) l) (sym is) (All-nil (IsLessDeep whole))
 
--- the same for a row with one more expression
-pub pushed_deep : (row more : List (Bor Expression)) (e : Bor Expression) (rest : Option (Bor Expression)) (whole : Expression)
-    → more ≡ row ++ (e ∷ []) → rest ≡ Some e → All (IsLessDeep whole) row → IfSome rest (IsLessDeep whole) → All (IsLessDeep whole) more
-pushed_deep row more e rest whole is h all last =
+-- the same for a chain with one more expression
+pub pushed_deep : (chain more : List (Bor Expression)) (e : Bor Expression) (rest : Option (Bor Expression)) (whole : Expression)
+    → more ≡ chain ++ (e ∷ []) → rest ≡ Some e → All (IsLessDeep whole) chain → IfSome rest (IsLessDeep whole) → All (IsLessDeep whole) more
+pushed_deep chain more e rest whole is h all last =
     subst (λ (l : List (Bor Expression)). All (IsLessDeep whole) l) (sym is)
-    (All-push (IsLessDeep whole) row e all (subst (λ (r : Option (Bor Expression)). IfSome r (IsLessDeep whole)) h last))
+    (All-push (IsLessDeep whole) chain e all (subst (λ (r : Option (Bor Expression)). IfSome r (IsLessDeep whole)) h last))
 
 below_next : (e : Bor Expression) (answer : Option (Bor Expression)) (whole : Expression)
     → IsLessDeep whole e → IfSome answer (IsLessDeep e.now) → IfSome answer (IsLessDeep whole)
@@ -65,7 +65,7 @@ pub next_deep : (e : Bor Expression) (rest answer : Option (Bor Expression)) (wh
     → rest ≡ Some e → IfSome answer (IsLessDeep e.now) → IfSome rest (IsLessDeep whole) → IfSome answer (IsLessDeep whole)
 next_deep e rest answer whole h less' less = below_next e answer whole (subst (λ (r : Option (Bor Expression)). IfSome r (IsLessDeep whole)) h less) less'
 
--- the same for a row with one expression less, and for that expression
-pub popped_deep : (row less : List (Bor Expression)) (e : Bor Expression) (whole : Expression)
-    → row ≡ less ++ (e ∷ []) → All (IsLessDeep whole) row → All (IsLessDeep whole) less × IsLessDeep whole e
-popped_deep row less e whole is all = All-pop (IsLessDeep whole) row less (Some e) is all
+-- the same for a chain with one expression less, and for that expression
+pub popped_deep : (chain less : List (Bor Expression)) (e : Bor Expression) (whole : Expression)
+    → chain ≡ less ++ (e ∷ []) → All (IsLessDeep whole) chain → All (IsLessDeep whole) less × IsLessDeep whole e
+popped_deep chain less e whole is all = All-pop (IsLessDeep whole) chain less (Some e) is all

@@ -30,9 +30,9 @@ abbrev pub IsLessDeep : (whole : Expression) → Bor Expression → Type 0
 IsLessDeep whole e = size-Expression e.now < size-Expression whole
 
 -- Each expression is the right side of the next one in the list, and the last one that of `whole`. `rest` is the right side of the first.
-abbrev pub IsRow : List (Bor Expression) → (whole : Expression) → (rest : Option Expression) → Type 0
-IsRow [] whole rest = right_side whole ≡ rest
-IsRow (e ∷ es) whole rest = (right_side e.now ≡ rest) × IsRow es whole (Some e.now)
+abbrev pub IsChain : List (Bor Expression) → (whole : Expression) → (rest : Option Expression) → Type 0
+IsChain [] whole rest = right_side whole ≡ rest
+IsChain (e ∷ es) whole rest = (right_side e.now ≡ rest) × IsChain es whole (Some e.now)
 
 -- an optional copy is a copy of this expression
 abbrev pub IsCopied : Option (Box Expression) → Option Expression → Type 0

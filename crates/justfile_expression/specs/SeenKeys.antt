@@ -6,7 +6,7 @@ use Rattle.justfile_token.specs.declared.token.Token.{Token}
 use Rattle.justfile_model.specs.Trees.ContentLeaf.{ContentLeaf, token, literal, operator}
 use Rattle.justfile_model.specs.Trees.ContentKeys.{expr_key, exprs_keys, parts_keys, literal_key}
 use Rattle.justfile_model.specs.Trees.ExpressionCases.{case_node}
-use Rattle.justfile_model.specs.Trees.Key.{Key, leaf, end, next, row, absent_key, present_key, map_key, map_keys}
+use Rattle.justfile_model.specs.Trees.Key.{Key, leaf, end, next, sequence, absent_key, present_key, map_key, map_keys}
 use Rattle.justfile_model.specs.declared.expression_case.ExpressionCase.TheVariants as cases
 use Rattle.justfile_model.specs.LiteralTexts.Literals.{string_of}
 use Rattle.justfile_expression.specs.Content.{content_of}
@@ -32,7 +32,7 @@ mutual
   key_seen (And' p lhs q rhs) = λ i. case_node cases.And (next (key_seen lhs i) (next (key_seen rhs i) end))
   key_seen (Assert' p condition message name) = assert_seen condition message name.token (key_seen condition)
   key_seen (Backtick contents t) = refl
-  key_seen (Call' name m arguments) = λ i. case_node cases.Call (next (token_leaf name.token) (next (row (row_seen arguments i)) end))
+  key_seen (Call' name m arguments) = λ i. case_node cases.Call (next (token_leaf name.token) (next (sequence (row_seen arguments i)) end))
   key_seen (Comparison' p lhs o q rhs t) =
       λ i. case_node cases.Comparison (next (key_seen lhs i) (next (leaf (operator o)) (next (key_seen rhs i) (next (token_leaf t) end))))
   key_seen (Concatenation' p lhs t q rhs) =
@@ -41,7 +41,7 @@ mutual
   key_seen (FormatString' start m expressions) = format_seen start expressions
   key_seen (Group' p contents) = λ i. case_node cases.Group (next (key_seen contents i) end)
   key_seen (Join' lhs t q rhs) = join_seen lhs t rhs (key_seen rhs)
-  key_seen (List' m elements opener) = λ i. case_node cases.List (next (row (row_seen elements i)) (next (token_leaf opener) end))
+  key_seen (List' m elements opener) = λ i. case_node cases.List (next (sequence (row_seen elements i)) (next (token_leaf opener) end))
   key_seen (ListConcatenation' p lhs t q rhs) =
       λ i. case_node cases.ListConcatenation (next (key_seen lhs i) (next (token_leaf t) (next (key_seen rhs i) end)))
   key_seen (Not' p operand) = λ i. case_node cases.Not (next (key_seen operand i) end)
@@ -75,13 +75,13 @@ mutual
   row_seen (row_more e others) = λ i. next (key_seen e i) (row_seen others i)
 
   format_seen : (start : literals.StringLiteral) {n : Count} (parts : FormatRow n)
-      → case_node cases.FormatString (next (literal_leaf start) (next (row (map_keys content_of (row_parts parts))) end)) ≡ expr_key views_leaves (format_row_tree (Literal (literal_of start)) parts)
+      → case_node cases.FormatString (next (literal_leaf start) (next (sequence (map_keys content_of (row_parts parts))) end)) ≡ expr_key views_leaves (format_row_tree (Literal (literal_of start)) parts)
   format_seen start format_row_end = refl
   format_seen start (format_row_more e l others) =
-      λ i. case_node cases.FormatString (next (literal_leaf start) (next (row (parts_seen (Literal (literal_of start)) (key_seen e) l others i)) end))
+      λ i. case_node cases.FormatString (next (literal_leaf start) (next (sequence (parts_seen (Literal (literal_of start)) (key_seen e) l others i)) end))
 
   parts_seen : (start : Leaf) {k k' : Key ContentLeaf} (e : k ≡ k') (l : literals.StringLiteral) {n : Count} (parts : FormatRow n)
-      → next (row (next k (next (literal_leaf l) end))) (map_keys content_of (row_parts parts))
+      → next (sequence (next k (next (literal_leaf l) end))) (map_keys content_of (row_parts parts))
       ≡ parts_keys views_leaves start k' (parts_row_tree (Literal (literal_of l)) parts)
-  parts_seen start e l format_row_end = λ i. next (row (next (e i) (next (literal_leaf l) end))) end
-  parts_seen start e l (format_row_more f m others) = λ i. next (row (next (e i) (next (literal_leaf l) end))) (parts_seen start (key_seen f) m others i)
+  parts_seen start e l format_row_end = λ i. next (sequence (next (e i) (next (literal_leaf l) end))) end
+  parts_seen start e l (format_row_more f m others) = λ i. next (sequence (next (e i) (next (literal_leaf l) end))) (parts_seen start (key_seen f) m others i)

@@ -7,7 +7,7 @@ ghost use Rattle.std.specs.Option.{option_map};
 ghost use Rattle.justfile_expression.specs.Children.{of_option};
 ghost use Rattle.justfile_token.specs.Copies.{IsSameIfPresent};
 ghost use Rattle.justfile_expression.specs.Copies.{IsSameExpression, IsSameBoxed, IsSamePart};
-ghost use Rattle.justfile_expression.specs.RightSides.{IsCopied, IsLessDeep, IsRow, right_side};
+ghost use Rattle.justfile_expression.specs.RightSides.{IsCopied, IsLessDeep, IsChain, right_side};
 
 use justfile_model::ConditionalOperator;
 use justfile_numbers::Number;
@@ -378,29 +378,29 @@ pub fn copy_boxed<'src>(
 ) -> Result<Box<Expression<'src>>, AllocError>
     ensures { IfOk result (λ copy. IsSameExpression copy.value expression.now) }
 {
-    let mut row = find_row(alloc, expression)?;
+    let mut chain = find_chain(alloc, expression)?;
     let mut copied = None;
-    while let Some(next) = row.pop() {
+    while let Some(next) = chain.pop() {
         copied = Some(box_copy(alloc, next, copied)?);
     }
     box_copy(alloc, expression, copied)
 }
 
 /// Returns the right side of an expression, the right side of that one, and so on.
-fn find_row<'a, 'src>(
+fn find_chain<'a, 'src>(
     alloc: Global,
     expression: &'a Expression<'src>,
 ) -> Result<Vec<&'a Expression<'src>>, AllocError>
-    ensures in_row { IfOk result (λ row. IsRow (reverse row.items) expression.now None) }
-    ensures smaller { IfOk result (λ row. All (IsLessDeep expression.now) row.items) }
+    ensures in_chain { IfOk result (λ chain. IsChain (reverse chain.items) expression.now None) }
+    ensures smaller { IfOk result (λ chain. All (IsLessDeep expression.now) chain.items) }
 {
-    let mut row = Vec::new(alloc);
+    let mut chain = Vec::new(alloc);
     let mut rest = right_side(expression);
     while let Some(next) = rest {
-        row.push(next)?;
+        chain.push(next)?;
         rest = right_side(next);
     }
-    Ok(row)
+    Ok(chain)
 }
 
 /// Returns the right operand of an expression or the `else` branch of a conditional, if any.

@@ -6,7 +6,7 @@ ghost use Rattle.std.specs.Cmp.{eq_by_cmp_equiv, on_total, partial_equiv_from_eq
 ghost use Rattle.std.specs.Cmp.Lexicographic.{slice_cmp};
 ghost use Rattle.std.specs.Ordering.{eq_by_cmp, nat_cmp, on};
 ghost use Rattle.justfile_model.specs.Trees.ExpressionCases.{case_label, case_node};
-ghost use Rattle.justfile_model.specs.Trees.Key.{label, end, next, row, keys_of, key_cmp};
+ghost use Rattle.justfile_model.specs.Trees.Key.{label, end, next, sequence, keys_of, key_cmp};
 ghost use Rattle.justfile_model.specs.Trees.KeyLaws.{key_total};
 ghost use Rattle.justfile_model.specs.declared.expression_case.ExpressionCase.TheVariants as cases;
 ghost use Rattle.justfile_expression.specs.Content.{expression_content_cmp, leaf_order};
@@ -259,7 +259,7 @@ fn compare_call<'src>(
     other: &Expression<'src>,
 ) -> Ordering
     ensures { result ≡ key_cmp (leaf_order leaves) (case_node cases.Call
-        (next (token_key name.now.token) (next (row (keys_of key arguments.now.items)) end)))
+        (next (token_key name.now.token) (next (sequence (keys_of key arguments.now.items)) end)))
         (left_key other.now) }
 {
     match other {
@@ -351,7 +351,7 @@ fn compare_format_string<'src>(
     other: &Expression<'src>,
 ) -> Ordering
     ensures { result ≡ key_cmp (leaf_order leaves) (case_node cases.FormatString
-        (next (literal_key start.now) (next (row (keys_of part_key expressions.now.items)) end)))
+        (next (literal_key start.now) (next (sequence (keys_of part_key expressions.now.items)) end)))
         (left_key other.now) }
 {
     match other {
@@ -480,7 +480,7 @@ fn compare_list<'src>(
     other: &Expression<'src>,
 ) -> Ordering
     ensures { result ≡ key_cmp (leaf_order leaves) (case_node cases.List
-        (next (row (keys_of key elements.now.items)) (next (token_key opener.now) end)))
+        (next (sequence (keys_of key elements.now.items)) (next (token_key opener.now) end)))
         (left_key other.now) }
 {
     match other {

@@ -60,7 +60,7 @@ fn resolve<'src>(expression: &mut Expression<'src>, numbers: &Numbers<'_, 'src>)
     ensures { IsResolved (numbers_of numbers.now) expression.new expression.old }
 {
     let mut parents = placeholder();
-    resolve_row(expression, &mut parents, numbers);
+    resolve_chain(expression, &mut parents, numbers);
     rejoin(expression, &mut parents);
 }
 
@@ -87,7 +87,7 @@ fn placeholder<'src>() -> Expression<'src>
 /// one, and so on. `expression` ends as the last of these, and `parents` as the others, from the
 /// inside out: each has the next one in the place of its right side.
 #[cycle(resolve)]
-fn resolve_row<'src>(
+fn resolve_chain<'src>(
     expression: &mut Expression<'src>,
     parents: &mut Expression<'src>,
     numbers: &Numbers<'_, 'src>,

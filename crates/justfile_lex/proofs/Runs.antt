@@ -7,7 +7,7 @@ use Rattle.justfile_token.specs.declared.token.Token.{Token}
 use Rattle.justfile_vocabulary.specs.declared.token_kind.TokenKind.TheVariants.{Eof}
 use Rattle.justfile_model.specs.Lexing.Lexed.{Lexed}
 use Rattle.justfile_model.specs.Lexing.LexResult.{IsFrom}
-use Rattle.justfile_model.specs.Lexing.SignificantTokens.{TableEntry, is_whitespace}
+use Rattle.justfile_model.specs.Lexing.SignificantTokens.{TableToken, is_whitespace}
 use Rattle.justfile_model.specs.Lexing.Tok.{tok_of}
 use Rattle.justfile_lex.specs.Lexing.{IsLexing, Takes}
 use Rattle.justfile_lex.specs.SignificantTable.{IsTableOf}
@@ -59,19 +59,19 @@ white_after old new t len rest run p is rest_is h =
     subst (λ bs. IsRunOf bs run) there after
 
 -- The lexer is at the end of some tokens of the text, of which this is the table.
-pub record ReadsTable (path src : List ℕ) (l : Lexer) (glued : Bool) (table : List TableEntry) : Type 0 where
+pub record ReadsTable (path src : List ℕ) (l : Lexer) (glued : Bool) (table : List TableToken) : Type 0 where
   pub tokens : List Token
   pub runs : Runs path src tokens l
   pub is_table : IsTableTo tokens glued table
 
-pub begins : (path src : List ℕ) (l : Lexer) (table : List TableEntry) → IsLexing l [] → l.path.now ≡ path → l.src.now ≡ src → All (IsFrom path src) [] → table ≡ [] → ReadsTable path src l false table
+pub begins : (path src : List ℕ) (l : Lexer) (table : List TableToken) → IsLexing l [] → l.path.now ≡ path → l.src.now ≡ src → All (IsFrom path src) [] → table ≡ [] → ReadsTable path src l false table
 begins path src l table lexing path_is src_is none is = record {
   tokens = [];
   runs = record { lexing = lexing; sources = none; path_is = path_is; src_is = src_is };
   is_table = subst (IsTableTo [] false) (sym is) nothing;
 }
 
-module _ (path src : List ℕ) (old new : Lexer) (t : Token) (p : Takes old new t) (before after : Bool) (so_far table : List TableEntry) (h : ReadsTable path src old before so_far)
+module _ (path src : List ℕ) (old new : Lexer) (t : Token) (p : Takes old new t) (before after : Bool) (so_far table : List TableToken) (h : ReadsTable path src old before so_far)
     (after_is : after ≡ not (is_whitespace t.kind)) (table_is : table ≡ so_far ++ cond (is_whitespace t.kind) [] ((t, before) ∷ [])) where
   table_to : IsTableTo (h.tokens ++ t ∷ []) after table
   table_to = one_more h.tokens before so_far t h.is_table after table after_is table_is

@@ -330,8 +330,8 @@ impl<'src> Lexer<'src> {
     }
 }
 
-/// Returns an empty table with room for the tokens of a text: an entry for eight bytes, but at most
-/// 16,384 entries, so that a long text with few tokens asks for little.
+/// Returns an empty table with room for the tokens of a text: one token for eight bytes, but at most
+/// 16,384 tokens, so that a long text with few tokens asks for little.
 #[inline(never)]
 fn new_table<'src>(alloc: Global, src: &str) -> Result<Vec<(Token<'src>, bool)>, AllocError>
     ensures { IfOk result (λ table. table.items ≡ []) }

@@ -1,2 +1,2 @@
 -- What the public calls promise.
-pub use Rattle.justfile_parse_file.specs.Parsing.{CountersMoved, HasNoTree, IsCompileError, IsFilled, IsFilledItem, IsFilledLiteral, IsFilledSetting, IsOneLex, IsParsed, IsParsedText, IsTextRefused, IsTreeless, IsUnparsed, TextWantsNumber}
+pub use Rattle.justfile_parse_file.specs.Parsing.{CountersMoved, HasNoTree, IsCompileError, IsFilled, IsFilledItem, IsFilledLiteral, IsFilledSetting, IsOneLex, IsParsed, IsParsedText, IsTextRejected, IsTreeless, IsUnparsed, TextWantsNumber}

@@ -15,13 +15,13 @@ use Rattle.justfile_parse_attribute.specs.AttributeTable.{Entries}
 use Rattle.justfile_parse_expression.specs.TableReader.{Read, State, accept, expect, leaves}
 use Rattle.justfile_parse_base.specs.declared.parse_error.ParseError.{ParseError}
 use Rattle.justfile_parse_base.specs.declared.parse_error.ParseError.TheVariants.{Expression, Compile}
-use Rattle.justfile_parse_expression.specs.Significant.{TableEntry}
+use Rattle.justfile_parse_expression.specs.Significant.{TableToken}
 use Rattle.justfile_parse_expression.specs.declared.expression_error.ExpressionError.TheVariants as causes
 use Rattle.justfile_parse_base.proofs.RuleSteps.{broken_first}
 use Rattle.justfile_expression.specs.LeafTree.{Leaf}
 
 abbrev Taken : Type 0
-Taken = Option (TableEntry × State)
+Taken = Option (TableToken × State)
 
 -- ---- any loop: a step after another, up to the last
 
@@ -58,7 +58,7 @@ separated : {X : Type 0} (closing : TokenKind) (all : List X) (s : State) (whole
 unfolding r.separator
 separated {X} closing all s whole = go (accept kinds.Comma s) (expect closing s)
   where
-    go : (o : Taken) (found : Read TableEntry)
+    go : (o : Taken) (found : Read TableToken)
         → choose {X = Read (List X)} o (found >>= λ closer. Ok (all, closer.1)) (λ comma. whole (all, comma.1))
         ≡ ((choose {X = Read Bool} o (found >>= λ closer. Ok (true, closer.1)) (λ comma. Ok (false, comma.1)) >>= λ b. Ok ((all, b.0), b.1)) >>= by_last whole)
     go None (Ok closer) = refl
@@ -67,7 +67,7 @@ separated {X} closing all s whole = go (accept kinds.Comma s) (expect closing s)
 
 -- ---- arguments between parentheses
 
-module _ (name : TableEntry) (keys : Bool) where
+module _ (name : TableToken) (keys : Bool) where
   abbrev from : Arguments × State → Read Arguments
   from = r.arguments_from name keys
 
@@ -125,13 +125,13 @@ lines_law x = laws.attribute_lines_from_is leaves view_of meaning_kept meaning_i
     flagged : Entries × State → Read (Entries × Bool)
     flagged y = Ok ((y.0, false), y.1)
 
-    ended : Entries → Option TableEntry × State → Read Entries
+    ended : Entries → Option TableToken × State → Read Entries
     ended ws end = Ok (r.commented_by end.0 ws, end.1)
 
-    later : Entries → Option TableEntry × State → Read Entries
+    later : Entries → Option TableToken × State → Read Entries
     later ws end = r.attribute_lines_from (r.commented_by end.0 ws, end.1)
 
-    by_end : (ws : Entries) (found : Read (Option TableEntry)) → (found >>= later ws) ≡ (((found >>= ended ws) >>= flagged) >>= by_last r.attribute_lines_from)
+    by_end : (ws : Entries) (found : Read (Option TableToken)) → (found >>= later ws) ≡ (((found >>= ended ws) >>= flagged) >>= by_last r.attribute_lines_from)
     by_end ws (Ok end) = refl
     by_end ws (Err f) = refl
 

@@ -34,7 +34,7 @@ use Rattle.justfile_parse_expression.specs.View.{tokens_left, state_of}
 use Rattle.justfile_parse_base.specs.declared.parse_error.ParseError.{ParseError}
 use Rattle.justfile_parse_base.specs.declared.parse_error.ParseError.TheVariants.{Expression, Compile}
 use Rattle.justfile_parse_expression.specs.declared.parser_state.ParserState.{ParserState}
-use Rattle.justfile_parse_expression.specs.Significant.{TableEntry}
+use Rattle.justfile_parse_expression.specs.Significant.{TableToken}
 use Rattle.justfile_parse_expression.specs.declared.expression_error.SyntaxError.TheVariants as refusals
 use Rattle.justfile_parse_expression.specs.declared.expression_error.ExpressionError.TheVariants as causes
 use Rattle.justfile_parse_expression.proofs.Rest.{left_is}
@@ -49,13 +49,13 @@ pub none_before : {X : Type 0} (answer : X → List ℕ → Result (List ℕ) (L
     → ◌≡◌ {A = Read (Argument Leaf Token)} (Err (reading.Unexpected None)) (Err (read_error_at refusals.Unexpected s))
 none_before answer p q s h k = go (state_of answer p).left (left_is answer p) h
   where
-    go : (l : List TableEntry) → length l ≡ tokens_left p → front l ≡ None → ◌≡◌ {A = Read (Argument Leaf Token)} (Err (reading.Unexpected None)) (Err (read_error_at refusals.Unexpected s))
+    go : (l : List TableToken) → length l ≡ tokens_left p → front l ≡ None → ◌≡◌ {A = Read (Argument Leaf Token)} (Err (reading.Unexpected None)) (Err (read_error_at refusals.Unexpected s))
     go [] e h = absurd (omega (arith, e, k))
     go (t ∷ ts) e h = cc
 
 -- ---- arguments
 
-pub one_argument_is : (name : TableEntry) (keys : Bool) (before : Arguments) (s : State)
+pub one_argument_is : (name : TableToken) (keys : Bool) (before : Arguments) (s : State)
     → r.one_argument name keys before s ≡ cond (keys && r.begins_key s) (r.one_keyed name before s) (r.one_positional before s)
 unfolding r.one_argument r.one_keyed r.one_positional attributes.argument
 one_argument_is name keys before s = go (keys && r.begins_key s)
@@ -64,7 +64,7 @@ one_argument_is name keys before s = go (keys && r.begins_key s)
     go true = refl
     go false = refl
 
-pub arguments_is : (name : TableEntry) (keys : Bool) (s : State)
+pub arguments_is : (name : TableToken) (keys : Bool) (s : State)
     → r.arguments name keys s
     ≡ choose (accept kinds.Colon s) (choose (accept kinds.ParenL s) (Ok ([], s)) (λ opener. r.arguments_from name keys ([], opener.1))) (λ colon. r.single_argument colon.1)
 unfolding r.single_argument attributes.arguments
@@ -73,17 +73,17 @@ arguments_is name keys s = refl
 -- ---- an attribute
 
 -- the kind of a name, or its refusal
-abbrev pub kind_or_refused : TableEntry → State → Option AttributeKind → Read AttributeKind
+abbrev pub kind_or_refused : TableToken → State → Option AttributeKind → Read AttributeKind
 kind_or_refused = laws.kind_or_refused leaves view_of meaning_kept meaning_in
 
-pub kind_at_is : (name : TableEntry) (s : State) → r.kind_at name s ≡ kind_or_refused name s (kind_named (leaves.see name).tok.lexeme)
+pub kind_at_is : (name : TableToken) (s : State) → r.kind_at name s ≡ kind_or_refused name s (kind_named (leaves.see name).tok.lexeme)
 kind_at_is name s = laws.kind_at_is leaves view_of meaning_kept meaning_in name s
 
 map_same : (es : Entries) → map meaning_in es ≡ es
 map_same [] = refl
 map_same (e ∷ es) = ap (λ (l : Entries). e ∷ l) (map_same es)
 
-made_after : (before : Entries) (name : TableEntry) (kind : AttributeKind) (all : Arguments) (s : State)
+made_after : (before : Entries) (name : TableToken) (kind : AttributeKind) (all : Arguments) (s : State)
     → (r.made before name kind all s >>= then_last before) ≡ r.one_made before name.0 kind all s
 unfolding attributes.made r.one_made leaves
 made_after before name kind all s =
@@ -102,18 +102,18 @@ pub one_attribute_is : (before : Entries) (s : State)
 unfolding r.one_attribute attributes.attribute
 one_attribute_is before s = by_name (expect kinds.Identifier s)
   where
-    by_all : (name : TableEntry) (kind : AttributeKind) (found : Read Arguments)
+    by_all : (name : TableToken) (kind : AttributeKind) (found : Read Arguments)
         → ((found >>= λ all. r.made before name kind all.0 all.1) >>= then_last before) ≡ (found >>= λ all. r.one_made before name.0 kind all.0 all.1)
     by_all name kind (Ok all) = made_after before name kind all.0 all.1
     by_all name kind (Err f) = refl
 
-    by_kind : (name : TableEntry) (found : Read AttributeKind)
+    by_kind : (name : TableToken) (found : Read AttributeKind)
         → ((found >>= λ kind. r.arguments name (takes_keys kind.0) kind.1 >>= λ all. r.made before name kind.0 all.0 all.1) >>= then_last before)
         ≡ (found >>= λ kind. r.arguments name (takes_keys kind.0) kind.1 >>= λ all. r.one_made before name.0 kind.0 all.0 all.1)
     by_kind name (Ok kind) = by_all name kind.0 (r.arguments name (takes_keys kind.0) kind.1)
     by_kind name (Err f) = refl
 
-    by_name : (found : Read TableEntry)
+    by_name : (found : Read TableToken)
         → ((found >>= λ name. r.kind_at name.0 name.1 >>= λ kind. r.arguments name.0 (takes_keys kind.0) kind.1 >>= λ all. r.made before name.0 kind.0 all.0 all.1) >>= then_last before)
         ≡ (found >>= λ name. r.kind_at name.0 name.1 >>= λ kind. r.arguments name.0 (takes_keys kind.0) kind.1 >>= λ all. r.one_made before name.0.0 kind.0 all.0 all.1)
     by_name (Ok name) = by_kind name.0 (r.kind_at name.0 name.1)
@@ -183,11 +183,11 @@ module _ (pairs : List (Attribute × Written)) (name : Name) (kind : AttributeKi
       so_far ∙ ap Q (sym (map-append entry_of_pair pairs (uncommented (a, name) ∷ []))) ∙ sym (ap P h.added)
 
 -- an attribute is not read where its kind is not, or its arguments are not
-pub kind_fails : (before : Entries) (s : State) (name : TableEntry) (named : State) (error : ParseError) → expect kinds.Identifier s ≡ Ok (name, named)
+pub kind_fails : (before : Entries) (s : State) (name : TableToken) (named : State) (error : ParseError) → expect kinds.Identifier s ≡ Ok (name, named)
     → IsParseError error named ⊥ (r.kind_at name named) → IsParseError error named ⊥ (r.one_attribute before s)
 kind_fails before s name named error found h = rw (one_attribute_is before s, found) (fails_first error named (r.kind_at name named) _ h)
 
-pub arguments_fail : (before : Entries) (s : State) (name : TableEntry) (named : State) (kind : AttributeKind) (keys : Bool) (rest : State) (error : ParseError)
+pub arguments_fail : (before : Entries) (s : State) (name : TableToken) (named : State) (kind : AttributeKind) (keys : Bool) (rest : State) (error : ParseError)
     → expect kinds.Identifier s ≡ Ok (name, named) → r.kind_at name named ≡ Ok (kind, named) → keys ≡ takes_keys kind
     → IsParseError error rest ⊥ (r.arguments name keys named) → IsParseError error rest ⊥ (r.one_attribute before s)
 arguments_fail before s name named kind keys rest error found kinded same h =

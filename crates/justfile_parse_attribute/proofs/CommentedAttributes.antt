@@ -7,7 +7,7 @@ use Rattle.justfile_model.specs.Trees.Tree.{at_last, commented, commented_entry}
 use Rattle.justfile_parse_attribute.specs.AttributeTable as reader
 use Rattle.justfile_parse_attribute.specs.Attributes.{entry_of_pair}
 use Rattle.justfile_parse_attribute.specs.DerivedAttributeFields.{HaveDerivedAttributeFields, KeepsDerivedPairFields}
-use Rattle.justfile_parse_expression.specs.Significant.{TableEntry}
+use Rattle.justfile_parse_expression.specs.Significant.{TableToken}
 use Rattle.justfile_written.specs.Written.{Comment, last_with_comment, line_commented}
 use Rattle.justfile_written.specs.declared.written.Written.{Written}
 
@@ -26,7 +26,7 @@ line_entries None pairs = refl
 line_entries (Some comment) pairs = last_entry comment pairs
 
 -- the entries have the comment at the same place
-pub entries_commented : (comment : Option Comment) (taken : Option TableEntry) (old new : List Pair) → option_copied comment ≡ option_map reader.comment_in taken
+pub entries_commented : (comment : Option Comment) (taken : Option TableToken) (old new : List Pair) → option_copied comment ≡ option_map reader.comment_in taken
     → new ≡ line_commented comment old → map entry_of_pair new ≡ reader.commented_by taken (map entry_of_pair old)
 entries_commented comment taken old new e h =
     ap (map entry_of_pair) h ∙ line_entries comment old ∙ ap (λ c. commented commented_entry c (map entry_of_pair old)) e

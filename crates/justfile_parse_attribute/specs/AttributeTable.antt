@@ -15,7 +15,7 @@ unfoldable pub use Rattle.justfile_parse_base.specs.SharedTable.{separator}
 use Rattle.justfile_parse_expression.specs.TableReader.{Read, Run, State, accept, expect, leaves}
 use Rattle.justfile_expression.specs.LeafViews.{views_leaves}
 use Rattle.justfile_expression.specs.LeafTree.{Leaf}
-use Rattle.justfile_parse_expression.specs.Significant.{TableEntry}
+use Rattle.justfile_parse_expression.specs.Significant.{TableToken}
 
 -- what a tree holds of an attribute: its meaning
 abbrev pub meaning_kept : WrittenAttribute Leaf Token → Entry Leaf Token → Entry Leaf Token
@@ -47,13 +47,13 @@ positional = attributes.positional leaves view_of meaning_kept meaning_in
 abbrev pub key_value : State → Read (Option (Expr Leaf Token))
 key_value = attributes.key_value leaves view_of meaning_kept meaning_in
 
-abbrev pub keyed : (name : TableEntry) (before : Arguments) → State → Read (Argument Leaf Token)
+abbrev pub keyed : (name : TableToken) (before : Arguments) → State → Read (Argument Leaf Token)
 keyed = attributes.keyed leaves view_of meaning_kept meaning_in
 
 abbrev pub begins_key : State → Bool
 begins_key = attributes.begins_key leaves view_of meaning_kept meaning_in
 
-abbrev pub argument : (name : TableEntry) (keys : Bool) (before : Arguments) → State → Read (Argument Leaf Token)
+abbrev pub argument : (name : TableToken) (keys : Bool) (before : Arguments) → State → Read (Argument Leaf Token)
 argument = attributes.argument leaves view_of meaning_kept meaning_in
 
 -- appends the element that was read to those before it
@@ -61,13 +61,13 @@ abbrev pub then_last : {X : Type 0} → List X → X × State → Read (List X)
 then_last before x = Ok (before ++ x.0 ∷ [], x.1)
 
 -- an argument, appended to those before it
-unfoldable pub one_argument : (name : TableEntry) (keys : Bool) (before : Arguments) → State → Read Arguments
+unfoldable pub one_argument : (name : TableToken) (keys : Bool) (before : Arguments) → State → Read Arguments
 one_argument name keys before s = argument name keys before s >>= then_last before
 
 unfoldable pub one_positional : (before : Arguments) → State → Read Arguments
 one_positional before s = positional before s >>= then_last before
 
-unfoldable pub one_keyed : (name : TableEntry) (before : Arguments) → State → Read Arguments
+unfoldable pub one_keyed : (name : TableToken) (before : Arguments) → State → Read Arguments
 one_keyed name before s = keyed name before s >>= then_last before
 
 -- the argument after a colon
@@ -77,7 +77,7 @@ single_argument s = do
   Ok (a.0 ∷ [], a.1)
 
 -- the closing parenthesis, or an argument and what follows it; whether the arguments are at their end
-unfoldable pub list_step : (name : TableEntry) (keys : Bool) (before : Arguments) → State → Read (Arguments × Bool)
+unfoldable pub list_step : (name : TableToken) (keys : Bool) (before : Arguments) → State → Read (Arguments × Bool)
 list_step name keys before s =
     choose (accept kinds.ParenR s)
     (do
@@ -86,16 +86,16 @@ list_step name keys before s =
       Ok ((all.0, is_last.0), is_last.1))
     (λ closer. Ok ((before, true), closer.1))
 
-abbrev pub arguments_from : (name : TableEntry) (keys : Bool) → Arguments × State → Read Arguments
+abbrev pub arguments_from : (name : TableToken) (keys : Bool) → Arguments × State → Read Arguments
 arguments_from = attributes.arguments_from leaves view_of meaning_kept meaning_in
 
-abbrev pub arguments : (name : TableEntry) (keys : Bool) → State → Read Arguments
+abbrev pub arguments : (name : TableToken) (keys : Bool) → State → Read Arguments
 arguments = attributes.arguments leaves view_of meaning_kept meaning_in
 
-abbrev pub kind_at : TableEntry → State → Read AttributeKind
+abbrev pub kind_at : TableToken → State → Read AttributeKind
 kind_at = attributes.kind_at leaves view_of meaning_kept meaning_in
 
-abbrev pub made : (before : Entries) → TableEntry → AttributeKind → Arguments → State → Read (Entry Leaf Token)
+abbrev pub made : (before : Entries) → TableToken → AttributeKind → Arguments → State → Read (Entry Leaf Token)
 made = attributes.made leaves view_of meaning_kept meaning_in
 
 abbrev pub attribute : (before : Entries) → State → Read (Entry Leaf Token)
@@ -122,15 +122,15 @@ abbrev pub bracketed : Entries × State → Read Entries
 bracketed = attributes.bracketed leaves view_of meaning_kept meaning_in
 
 -- the end of a line, after its comment if it has one
-abbrev pub line_end_after : (comment : Option TableEntry) → State → Read (Option TableEntry)
+abbrev pub line_end_after : (comment : Option TableToken) → State → Read (Option TableToken)
 line_end_after = attributes.line_end_after leaves view_of meaning_kept meaning_in
 
 -- the end of a line of attributes, and the comment before it, if there is one
-abbrev pub attributes_end : State → Read (Option TableEntry)
+abbrev pub attributes_end : State → Read (Option TableToken)
 attributes_end = attributes.attributes_end leaves view_of meaning_kept meaning_in
 
 -- the entries, with this comment attached to the last one
-abbrev pub commented_by : (comment : Option TableEntry) → Entries → Entries
+abbrev pub commented_by : (comment : Option TableToken) → Entries → Entries
 commented_by = attributes.commented_by leaves view_of meaning_kept meaning_in commented_entry
 
 -- a line of attributes after its opening bracket, appended to those before it

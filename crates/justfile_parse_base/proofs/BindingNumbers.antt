@@ -6,7 +6,7 @@ use Rattle.justfile_model.specs.Readers.HeaderReader as headers
 use Rattle.justfile_model.specs.Readers.HeaderReader.{with_bindings}
 use Rattle.justfile_model.specs.Readers.ReaderState.{Counters, NoNumber}
 use Rattle.justfile_parse_expression.specs.TableReader.{Read, State, accept, expect, leaves}
-use Rattle.justfile_parse_expression.specs.Significant.{TableEntry}
+use Rattle.justfile_parse_expression.specs.Significant.{TableToken}
 use Rattle.justfile_parse_base.specs.Counting.{TookBindingNumbers, counters_of, identifiers_left}
 use Rattle.justfile_parse_base.specs.SharedTable.{next_binding_number}
 use Rattle.justfile_parse_base.proofs.Fewer.{accept_fewer, expect_fewer, fewer_at}
@@ -63,12 +63,12 @@ pub took_for_name : (old new : Numerator) (number : ℕ) (first last : State) (f
 took_for_name old new number first last following is h k = took_one old new number last (identifiers_left first) following is (omega (arith, h, k))
 
 -- a token was taken before
-pub took_after_token : (old new : Numerator) (kind : TokenKind) (s : State) (x : TableEntry × State) (following : ℕ) → accept kind s ≡ Some x → TookBindingNumbers old new (identifiers_left x.1) following
+pub took_after_token : (old new : Numerator) (kind : TokenKind) (s : State) (x : TableToken × State) (following : ℕ) → accept kind s ≡ Some x → TookBindingNumbers old new (identifiers_left x.1) following
     → TookBindingNumbers old new (identifiers_left s) following
 took_after_token old new kind s x following is h = within old new (identifiers_left x.1) following (identifiers_left s) following h (accept_fewer kind s x is) (omega arith)
 
 -- a token is taken after it
-pub took_before_token : (old new : Numerator) (kind : TokenKind) (before : ℕ) (s : State) (x : TableEntry × State) → expect kind s ≡ Ok x → TookBindingNumbers old new before (identifiers_left s)
+pub took_before_token : (old new : Numerator) (kind : TokenKind) (before : ℕ) (s : State) (x : TableToken × State) → expect kind s ≡ Ok x → TookBindingNumbers old new before (identifiers_left s)
     → TookBindingNumbers old new before (identifiers_left x.1)
 took_before_token old new kind before s x is h = within old new before (identifiers_left s) before (identifiers_left x.1) h (omega arith) (fewer_at s (expect kind s) x (expect_fewer kind s) is)
 

@@ -23,8 +23,8 @@ use Rattle.justfile_model.proofs.Relations.Related as a
 use Rattle.justfile_model.proofs.Relations.Related.{Never, Related}
 use Rattle.justfile_parse_expression.specs.Significant.{significant_of}
 use Rattle.justfile_parse_expression.specs.TableReader.{At, Read, ReadExpr, State, accept, expect, leaves, read, value}
-use Rattle.justfile_parse_expression.specs.Significant.{TableEntry}
-use Rattle.justfile_parse_expression.proofs.Anywhere.{agree, entries_are, rel, state_alike, state_seen}
+use Rattle.justfile_parse_expression.specs.Significant.{TableToken}
+use Rattle.justfile_parse_expression.proofs.Anywhere.{agree, table_tokens_are, rel, state_alike, state_seen}
 use Rattle.justfile_parse_expression.proofs.FormatStrings.{IsExpected, IsNext, Taken, accepted, expected}
 use Rattle.justfile_parse_expression.proofs.Seen.{Meanings}
 use Rattle.justfile_parse_base.specs.Counting.{identifiers_left}
@@ -39,23 +39,23 @@ fewer_at s found x h is = known x (λ x. identifiers_left x.1 ≤ identifiers_le
 
 -- ---- tokens that are taken
 
-pub fewer : (e : TableEntry) (s rest : State) → s.left ≡ e ∷ rest.left → identifiers_left rest ≤ identifiers_left s
-fewer e s rest split = omega (arith, ap (λ (es : List TableEntry). identifiers (map significant_of es)) split)
+pub fewer : (e : TableToken) (s rest : State) → s.left ≡ e ∷ rest.left → identifiers_left rest ≤ identifiers_left s
+fewer e s rest split = omega (arith, ap (λ (es : List TableToken). identifiers (map significant_of es)) split)
 
-pub expect_fewer : (kind : TokenKind) (s : State) → Fewer {A = TableEntry} s (expect kind s)
+pub expect_fewer : (kind : TokenKind) (s : State) → Fewer {A = TableToken} s (expect kind s)
 expect_fewer kind s = go (expect kind s) (expected kind s)
   where
-    go : (o : Read TableEntry) → IsExpected kind s.left o → Fewer {A = TableEntry} s o
+    go : (o : Read TableToken) → IsExpected kind s.left o → Fewer {A = TableToken} s o
     go (Ok x) h = fewer x.0 s x.1 h.0
     go (Err f) h = tt
 
 -- a name that is taken is one less
-pub name_fewer : (s : State) (x : TableEntry × State) → expect kinds.Identifier s ≡ Ok x → identifiers_left x.1 + 1 ≤ identifiers_left s
+pub name_fewer : (s : State) (x : TableToken × State) → expect kinds.Identifier s ≡ Ok x → identifiers_left x.1 + 1 ≤ identifiers_left s
 name_fewer s x is =
     let h = subst (IsExpected kinds.Identifier s.left) is (expected kinds.Identifier s) in
-    omega (arith, ap (λ (es : List TableEntry). identifiers (map significant_of es)) h.0, counts_one x.0.0.kind h.1)
+    omega (arith, ap (λ (es : List TableToken). identifiers (map significant_of es)) h.0, counts_one x.0.0.kind h.1)
 
-pub accept_fewer : (kind : TokenKind) (s : State) (x : TableEntry × State) → accept kind s ≡ Some x → identifiers_left x.1 ≤ identifiers_left s
+pub accept_fewer : (kind : TokenKind) (s : State) (x : TableToken × State) → accept kind s ≡ Some x → identifiers_left x.1 ≤ identifiers_left s
 accept_fewer kind s x is =
     let h = subst (IsNext kind s s.left) is (accepted kind s) in
     fewer x.0 s x.1 h.0
@@ -74,10 +74,10 @@ then_fewer {A} {B} s (Ok x) f h k = go (f x) (k x)
     go (Err e) j = tt
 then_fewer s (Err e) f h k = tt
 
-pub either_fewer : {A : Type 0} (kind : TokenKind) (s : State) (x : Read A) (f : TableEntry × State → Read A) → Fewer s x → ((p : TableEntry × State) → Fewer p.1 (f p)) → Fewer s (choose (accept kind s) x f)
+pub either_fewer : {A : Type 0} (kind : TokenKind) (s : State) (x : Read A) (f : TableToken × State → Read A) → Fewer s x → ((p : TableToken × State) → Fewer p.1 (f p)) → Fewer s (choose (accept kind s) x f)
 either_fewer {A} kind s x f h k = go (accept kind s) (accepted kind s)
   where
-    last : (p : TableEntry × State) (o : Read A) → s.left ≡ p.0 ∷ p.1.left → Fewer p.1 o → Fewer s o
+    last : (p : TableToken × State) (o : Read A) → s.left ≡ p.0 ∷ p.1.left → Fewer p.1 o → Fewer s o
     last p (Ok y) split j = omega (arith, fewer p.0 s p.1 split, j)
     last p (Err e) split j = tt
 
@@ -103,7 +103,7 @@ module _ (s : State) where
   -- what the definitions read beside it leaves no more
   by_law : (o : ReadExpr) (o' : model.Read (Expr Tok Tok)) → Related (rel Meant s.run) Alike (Never (rel Meant s.run)) o o'
       → ((y : Expr Tok Tok × model.State) → o' ≡ Ok y → identifiers y.1.left ≤ identifiers (map significant_of s.left)) → Fewer {A = Expr Leaf Token} s o
-  by_law o o' (a.both {x = x} {y = y} q k) counts = omega (arith, counts y refl, ap (λ (ts : Tokens). identifiers ts) (entries_are s.run k.left))
+  by_law o o' (a.both {x = x} {y = y} q k) counts = omega (arith, counts y refl, ap (λ (ts : Tokens). identifiers ts) (table_tokens_are s.run k.left))
   by_law o o' (a.neither h) counts = tt
   by_law o o' (a.short h) counts = absurd h
   by_law o o' (a.deep loose) counts = tt

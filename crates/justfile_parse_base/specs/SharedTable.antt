@@ -8,7 +8,7 @@ use Rattle.justfile_model.specs.Trees.LeafView.{LeafView}
 use Rattle.justfile_model.specs.Readers.ReaderState as reading
 use Rattle.justfile_model.specs.Readers.ReaderState.{◌>>=◌, Counters, choose}
 use Rattle.justfile_parse_expression.specs.TableReader.{Read, Run, State, accept, expect, leaves}
-use Rattle.justfile_parse_expression.specs.Significant.{TableEntry}
+use Rattle.justfile_parse_expression.specs.Significant.{TableToken}
 use Rattle.justfile_expression.specs.LeafViews.{views_leaves}
 use Rattle.justfile_expression.specs.LeafTree.{Leaf}
 
@@ -26,7 +26,7 @@ separator closing s =
     (λ comma. Ok (false, comma.1))
 
 -- the text of a comment without the whitespace at its end
-abbrev pub comment_in : TableEntry → List ℕ
+abbrev pub comment_in : TableToken → List ℕ
 comment_in = reading.comment_in leaves
 
 -- the number of the next binding

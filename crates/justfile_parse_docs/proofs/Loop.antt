@@ -11,7 +11,7 @@ use Rattle.justfile_model.specs.Readers.Reader as files
 use Rattle.justfile_model.specs.Readers.PartReader.{after_numbered}
 use Rattle.justfile_model.specs.Readers.ReaderState.{◌>>=◌, Counters}
 use Rattle.justfile_parse_item.specs.ItemTable as reader
-use Rattle.justfile_parse_item.specs.ItemTable.{ReadItems, after_mark, items, attribute_leaves, line, read_nothing}
+use Rattle.justfile_parse_item.specs.ItemTable.{ReadItems, after_byte_order_mark, items, attribute_leaves, line, read_nothing}
 use Rattle.justfile_parse_expression.specs.TableReader.{Read, ReadError, State, accept, leaves}
 use Rattle.justfile_parse_base.specs.ParseErrors.{IsParseError}
 use Rattle.justfile_parse_item.specs.MethodResults.{CountersMoved}
@@ -19,7 +19,7 @@ use Rattle.justfile_parse_expression.specs.MethodResults.{IsExpressionError, lit
 use Rattle.justfile_parse_item.specs.Tree.{item_tree}
 use Rattle.justfile_expression.specs.LeafTree.{Leaf}
 use Rattle.justfile_parse_base.specs.declared.parse_error.ParseError.{ParseError}
-use Rattle.justfile_parse_expression.specs.Significant.{TableEntry}
+use Rattle.justfile_parse_expression.specs.Significant.{TableToken}
 use Rattle.justfile_parse_expression.specs.declared.expression_error.ExpressionError.{ExpressionError}
 use Rattle.justfile_parse_expression.specs.declared.expression_error.ExpressionError.TheVariants.{Refused, Literal, Memory, Numbers}
 use Rattle.justfile_model.proofs.Readers.ItemReading as laws
@@ -111,11 +111,11 @@ module _ (s q : State) (first next : Numerator) (done : List file.Item) (so_far 
           constants = h.constants ∙ so_far.constants;
         }
 
-  module _ (end : TableEntry) (rest : State) (is : accept kinds.Eof q ≡ Some (end, rest)) where
+  module _ (end : TableToken) (rest : State) (is : accept kinds.Eof q ≡ Some (end, rest)) where
     abbrev item_rest_end : Unit {0} × State → ReadItems
     item_rest_end x = Ok (([], counters_of next), x.1)
 
-    end_by : (entries : List TableEntry) → files.end_of_tokens leaves attribute_leaves (counters_of next) rest entries ≡ (reader.nothing_by rest entries >>= item_rest_end)
+    end_by : (table_tokens : List TableToken) → files.end_of_tokens leaves attribute_leaves (counters_of next) rest table_tokens ≡ (reader.nothing_by rest table_tokens >>= item_rest_end)
     end_by [] = refl
     end_by (t ∷ ts) = refl
 
@@ -136,6 +136,6 @@ module _ (s q : State) (first next : Numerator) (done : List file.Item) (so_far 
     goes_past Numbers IsShort h = absurd h
 
 -- a file is its items after a byte order mark
-pub file_is : (n : Counters) (s : State) → reader.file n s ≡ items n (after_mark s)
+pub file_is : (n : Counters) (s : State) → reader.file n s ≡ items n (after_byte_order_mark s)
 unfolding files.file
 file_is n s = refl

@@ -20,8 +20,8 @@ use Rattle.justfile_model.proofs.Relations.Related.{Each, Never, Related, States
 use Rattle.justfile_parse_expression.specs.TableReader.{At, ReadExpr, ReadError, Run, State, leaves, read}
 use Rattle.justfile_parse_expression.specs.Significant.{significant_of}
 use Rattle.justfile_expression.specs.LeafTree.{Leaf}
-use Rattle.justfile_parse_expression.specs.Significant.{TableEntry}
-use Rattle.justfile_parse_expression.proofs.Seen.{IsEntry, Meanings, Relates, respects, seen}
+use Rattle.justfile_parse_expression.specs.Significant.{TableToken}
+use Rattle.justfile_parse_expression.proofs.Seen.{IsTableToken, Meanings, Relates, respects, seen}
 
 -- any token
 abbrev pub Any : Token → Type 0
@@ -32,13 +32,13 @@ abbrev pub noted_of : ListFeature × Token → Noted Tok
 noted_of x = (x.0, tok_of x.1)
 
 module _ (run : Run) where
-  each_entry : (es : List TableEntry) → Each (IsEntry run.conditions run.conditions.limit Any run.file_depth run.import_offsets) es (map significant_of es)
-  each_entry [] = a.nil
-  each_entry (e ∷ es) = a.cons (record { among = tt; is = refl }) (each_entry es)
+  each_table_token : (es : List TableToken) → Each (IsTableToken run.conditions run.conditions.limit Any run.file_depth run.import_offsets) es (map significant_of es)
+  each_table_token [] = a.nil
+  each_table_token (e ∷ es) = a.cons (record { among = tt; is = refl }) (each_table_token es)
 
-  pub entries_are : {es : List TableEntry} {ts : List SignificantToken} → Each (IsEntry run.conditions run.conditions.limit Any run.file_depth run.import_offsets) es ts → ts ≡ map significant_of es
-  entries_are a.nil = refl
-  entries_are (a.cons h hs) = λ i. sym h.is i ∷ entries_are hs i
+  pub table_tokens_are : {es : List TableToken} {ts : List SignificantToken} → Each (IsTableToken run.conditions run.conditions.limit Any run.file_depth run.import_offsets) es ts → ts ≡ map significant_of es
+  table_tokens_are a.nil = refl
+  table_tokens_are (a.cons h hs) = λ i. sym h.is i ∷ table_tokens_are hs i
 
 module _ (AreMeant : Meanings) (run : Run) where
   abbrev pub rel : Relates
@@ -56,7 +56,7 @@ abbrev pub state_seen : State → model.State
 state_seen s = record { run = s.run.conditions; depth = s.depth; left = map significant_of s.left; noted = map noted_of s.noted }
 
 pub state_alike : (AreMeant : Meanings) (s : State) → States (rel AreMeant s.run) s (state_seen s)
-state_alike AreMeant s = record { run = record { conditions_are = refl; same = refl; within = omega arith; file_depth_is = refl; import_offsets_are = refl }; depth = refl; left = each_entry s.run s.left; noted = each_noted AreMeant s.run s.noted }
+state_alike AreMeant s = record { run = record { conditions_are = refl; same = refl; within = omega arith; file_depth_is = refl; import_offsets_are = refl }; depth = refl; left = each_table_token s.run s.left; noted = each_noted AreMeant s.run s.noted }
 
 -- no matter what attributes are
 abbrev Meant : Meanings
@@ -77,7 +77,7 @@ derives s e rest found = by_law (read (At levels.Expression false s)) (expressio
         → (tree : Expr Tok Tok) × (features : List (Noted Tok)) × grammar.Expression itself itself AnyDepth false s.depth tree features (map significant_of s.left) (map significant_of rest.left)
     by_law o o' is (a.both {x = x} {y = y} q k) same =
         let d = expression_derives s.run.conditions false s.depth (state_seen s) y is (refl, refl) in
-        let left : y.1.left ≡ map significant_of rest.left = entries_are s.run k.left ∙ ap (λ (z : Expr Leaf Token × State). map significant_of z.1.left) (inside x (e, rest) same) in
+        let left : y.1.left ≡ map significant_of rest.left = table_tokens_are s.run k.left ∙ ap (λ (z : Expr Leaf Token × State). map significant_of z.1.left) (inside x (e, rest) same) in
         (y.0, d.features, subst (λ (ts : List SignificantToken). grammar.Expression itself itself AnyDepth false s.depth y.0 d.features (map significant_of s.left) ts) left (expression_freed s.run.conditions.limit itself itself d.derives))
     by_law o o' is (a.neither {e = f} h) same = absurd (no_read f (e, rest) same)
     by_law o o' is (a.short h) same = absurd h

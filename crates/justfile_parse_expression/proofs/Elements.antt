@@ -10,7 +10,7 @@ use Rattle.justfile_parse_expression.specs.TableReader as r
 use Rattle.justfile_parse_expression.specs.TableReader.{Read, ReadError, State, accept, element, leaves, read}
 use Rattle.justfile_parse_expression.specs.MethodResults.{IsExpressionError, literal_read_error, read_error_at}
 use Rattle.justfile_expression.specs.LeafTree.{Leaf, leaf_tree_of, trees_of}
-use Rattle.justfile_parse_expression.specs.Significant.{TableEntry}
+use Rattle.justfile_parse_expression.specs.Significant.{TableToken}
 use Rattle.justfile_parse_expression.specs.declared.expression_error.ExpressionError.{ExpressionError}
 use Rattle.justfile_parse_expression.specs.declared.expression_error.ExpressionError.TheVariants.{Refused, Literal, Memory, Numbers}
 use Rattle.justfile_model.proofs.Readers.ExpressionReading.{sequence_is}
@@ -60,7 +60,7 @@ module _ (c : TokenKind) where
         let one : read (r.Sequence c s) ≡ (read (r.Sequence c rest) >>= then_made (more (leaf_tree_of e))) = rw (sequence_by s, h1, h2) refl in
         regroup es e (read (r.Sequence c rest)) ∙ sym (ap (with_front es) one)
 
-    pub closes : (t : TableEntry) (rest : State) → accept c s ≡ Some (t, rest) → with_front es (read (r.Sequence c s)) ≡ Ok (trees_of es, rest)
+    pub closes : (t : TableToken) (rest : State) → accept c s ≡ Some (t, rest) → with_front es (read (r.Sequence c s)) ≡ Ok (trees_of es, rest)
     closes t rest h = rw (sequence_by s, h) (ap (λ (t : Exprs Leaf Token). Ok (t, rest)) (joined_none es))
 
     pub closes_last : (e : Expression) (rest : State) → accept c s ≡ None → element c s ≡ Ok ((leaf_tree_of e, true), rest) → with_front es (read (r.Sequence c s)) ≡ Ok (trees_of (es ++ e ∷ []), rest)

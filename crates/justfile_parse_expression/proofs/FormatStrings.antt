@@ -24,65 +24,65 @@ use Rattle.justfile_parse_expression.specs.Significant.{significant_of}
 use Rattle.justfile_expression.specs.LeafTree.{Leaf}
 use Rattle.justfile_parse_expression.specs.View.{state_at, state_of}
 use Rattle.justfile_model.specs.declared.level.Level.TheVariants as levels
-use Rattle.justfile_parse_expression.specs.Significant.{TableEntry}
+use Rattle.justfile_parse_expression.specs.Significant.{TableToken}
 use Rattle.justfile_model.proofs.Readers.ExpressionReading.{advances}
 use Rattle.justfile_model.proofs.Readers.ReadingSteps.{known}
 use Rattle.justfile_parse_expression.proofs.Anywhere.{derives}
 use Rattle.justfile_parse_expression.proofs.Rules.{part_is}
 use Rattle.justfile_parse_expression.specs.declared.parser_state.ParserState.{ParserState}
 
--- ---- the entries that are taken
+-- ---- the tokens that are taken
 
 abbrev pub Taken : Type 0
-Taken = Option (TableEntry × State)
+Taken = Option (TableToken × State)
 
-kind_is : (kind : TokenKind) (t : TableEntry) → same_kind t.0.kind kind ≡ true → t.0.kind ≡ kind
+kind_is : (kind : TokenKind) (t : TableToken) → same_kind t.0.kind kind ≡ true → t.0.kind ≡ kind
 unfolding same_kind
 kind_is kind t h = same_true the_type tt _ _ h
 
--- the next entry, of this kind
-abbrev pub IsNext : TokenKind → State → List TableEntry → Taken → Type 0
-IsNext kind s entries None = Unit {0}
-IsNext kind s entries (Some x) = (entries ≡ x.0 ∷ x.1.left) × (x.0.0.kind ≡ kind) × (x.1.depth ≡ s.depth)
+-- the next token, of this kind
+abbrev pub IsNext : TokenKind → State → List TableToken → Taken → Type 0
+IsNext kind s table_tokens None = Unit {0}
+IsNext kind s table_tokens (Some x) = (table_tokens ≡ x.0 ∷ x.1.left) × (x.0.0.kind ≡ kind) × (x.1.depth ≡ s.depth)
 
 pub accepted : (kind : TokenKind) (s : State) → IsNext kind s s.left (accept kind s)
 unfolding reading.accept leaves
 accepted kind s = go s.left
   where
-    by_test : (t : TableEntry) (ts : List TableEntry) (b : Bool) → (b ≡ true → t.0.kind ≡ kind) → IsNext kind s (t ∷ ts) (cond b (Some (t, at s ts)) None)
+    by_test : (t : TableToken) (ts : List TableToken) (b : Bool) → (b ≡ true → t.0.kind ≡ kind) → IsNext kind s (t ∷ ts) (cond b (Some (t, at s ts)) None)
     by_test t ts true h = (refl, h refl, refl)
     by_test t ts false h = tt
 
-    go : (entries : List TableEntry) → IsNext kind s entries (accept_by leaves (λ t. same_kind t.tok.kind kind) s entries)
+    go : (table_tokens : List TableToken) → IsNext kind s table_tokens (accept_by leaves (λ t. same_kind t.tok.kind kind) s table_tokens)
     go [] = tt
     go (t ∷ ts) = by_test t ts (same_kind t.0.kind kind) (kind_is kind t)
 
-abbrev pub IsExpected : TokenKind → List TableEntry → Read TableEntry → Type 0
-IsExpected kind entries (Err f) = Unit {0}
-IsExpected kind entries (Ok x) = (entries ≡ x.0 ∷ x.1.left) × (x.0.0.kind ≡ kind)
+abbrev pub IsExpected : TokenKind → List TableToken → Read TableToken → Type 0
+IsExpected kind table_tokens (Err f) = Unit {0}
+IsExpected kind table_tokens (Ok x) = (table_tokens ≡ x.0 ∷ x.1.left) × (x.0.0.kind ≡ kind)
 
 pub expected : (kind : TokenKind) (s : State) → IsExpected kind s.left (expect kind s)
 unfolding reading.expect
 expected kind s = go (accept kind s) (accepted kind s)
   where
-    go : (o : Taken) → IsNext kind s s.left o → IsExpected kind s.left (choose {X = Read TableEntry} o (Err (reading.refused reading.Unexpected s)) (λ x. Ok x))
+    go : (o : Taken) → IsNext kind s s.left o → IsExpected kind s.left (choose {X = Read TableToken} o (Err (reading.refused reading.Unexpected s)) (λ x. Ok x))
     go None h = tt
     go (Some x) h = (h.0, h.1)
 
--- an entry after another
-abbrev IsMarked : List TableEntry → Taken → Type 0
-IsMarked entries None = Unit {0}
-IsMarked entries (Some x) = (mark : TableEntry) × (entries ≡ mark ∷ x.0 ∷ x.1.left)
+-- a token after another
+abbrev IsMarked : List TableToken → Taken → Type 0
+IsMarked table_tokens None = Unit {0}
+IsMarked table_tokens (Some x) = (mark : TableToken) × (table_tokens ≡ mark ∷ x.0 ∷ x.1.left)
 
 marked : (word : List ℕ) (kind : TokenKind) (s : State) → IsMarked s.left (accept_marked word kind s)
 unfolding reading.accept_marked
 marked word kind s = go s.left
   where
-    by_test : (m t : TableEntry) (ts : List TableEntry) (b : Bool) → IsMarked (m ∷ t ∷ ts) (cond b (Some (t, at s ts)) None)
+    by_test : (m t : TableToken) (ts : List TableToken) (b : Bool) → IsMarked (m ∷ t ∷ ts) (cond b (Some (t, at s ts)) None)
     by_test m t ts true = (m, refl)
     by_test m t ts false = tt
 
-    go : (entries : List TableEntry) → IsMarked entries (marked_by leaves word kind s entries)
+    go : (table_tokens : List TableToken) → IsMarked table_tokens (marked_by leaves word kind s table_tokens)
     go [] = tt
     go (m ∷ []) = tt
     go (m ∷ t ∷ ts) = by_test m t ts (marks word kind (leaves.see m) (leaves.see t))
@@ -90,7 +90,7 @@ marked word kind s = go s.left
 -- ---- from a start on
 
 -- after the start of a format string
-pub after_start : {X : Type 0} (answer : X → List ℕ → Result (List ℕ) (List ℕ)) (p : ParserState X) (word : List ℕ) (start : TableEntry) (rest : State) → accept_marked word kinds.FormatStringStart (state_of answer p) ≡ Some (start, rest) → start.0.kind ≡ kinds.FormatStringStart
+pub after_start : {X : Type 0} (answer : X → List ℕ → Result (List ℕ) (List ℕ)) (p : ParserState X) (word : List ℕ) (start : TableToken) (rest : State) → accept_marked word kinds.FormatStringStart (state_of answer p) ≡ Some (start, rest) → start.0.kind ≡ kinds.FormatStringStart
     → IsEndedFrom (kind_of (lexeme_of start.0)) rest
 unfolding state_of state_at IsEndedFrom AreEnded
 after_start answer p word start rest found kind =
@@ -100,15 +100,15 @@ after_start answer p word start rest found kind =
     let following = map significant_of rest.left in
     let split : map significant_of table ≡ front ++ map significant_of (drop p.next table) = ap (map significant_of) (sym (take-append-drop p.next table)) ∙ map-append significant_of (take p.next table) (drop p.next table) in
     let whole : map significant_of table ≡ (front ++ significant_of m.0 ∷ []) ++ significant_of start ∷ following
-    = split ∙ ap (λ (ts : List TableEntry). front ++ map significant_of ts) m.1 ∙ sym (append_assoc front (significant_of m.0 ∷ []) (significant_of start ∷ following)) in
+    = split ∙ ap (λ (ts : List TableToken). front ++ map significant_of ts) m.1 ∙ sym (append_assoc front (significant_of m.0 ∷ []) (significant_of start ∷ following)) in
     p.ended (front ++ significant_of m.0 ∷ []) (significant_of start) following whole kind rest.depth
 
 -- the part that ends it
-pub last_ended : (k : StringKind) (s : State) (t : TableEntry) (rest : State) → expect kinds.FormatStringEnd s ≡ Ok (t, rest) → IsEndedAt k s → IsTrue (is_part k string_parts.End (lexeme_of t.0))
+pub last_ended : (k : StringKind) (s : State) (t : TableToken) (rest : State) → expect kinds.FormatStringEnd s ≡ Ok (t, rest) → IsEndedAt k s → IsTrue (is_part k string_parts.End (lexeme_of t.0))
 unfolding IsEndedAt IsEnded
 last_ended k s t rest found h =
     let x = subst (IsExpected kinds.FormatStringEnd s.left) found (expected kinds.FormatStringEnd s) in
-    let ended = subst (λ (ts : List TableEntry). IsEnded k s.depth (map significant_of ts)) x.0 h in
+    let ended = subst (λ (ts : List TableToken). IsEnded k s.depth (map significant_of ts)) x.0 h in
     ended (Last (tok_of t.0)) [] (map significant_of rest.left) (grammar.end x.1)
 
 -- in the same run, at the same depth
@@ -125,10 +125,10 @@ module _ (k : StringKind) where
       subst P (sym (past s e rest found)) (h x.0 x.1 (map significant_of rest.left) x.2)
 
   -- after a part that is not the last
-  after_continue : (s : State) (t : TableEntry) (rest : State) → s.left ≡ t ∷ rest.left → t.0.kind ≡ kinds.FormatStringContinue → IsEndedAt k s → IsEndedPastExpression k s.depth (map significant_of rest.left)
+  after_continue : (s : State) (t : TableToken) (rest : State) → s.left ≡ t ∷ rest.left → t.0.kind ≡ kinds.FormatStringContinue → IsEndedAt k s → IsEndedPastExpression k s.depth (map significant_of rest.left)
   unfolding IsEndedAt IsEndedPastExpression IsEnded
   after_continue s t rest split kind h e fs following x ps gs end parts =
-      let ended = subst (λ (ts : List TableEntry). IsEnded k s.depth (map significant_of ts)) split h in
+      let ended = subst (λ (ts : List TableToken). IsEnded k s.depth (map significant_of ts)) split h in
       ended (Continue (tok_of t.0) e ps) (fs ++ gs) end (grammar.next kind x parts)
 
   abbrev GoesOn : State → Read (Leaf × Bool) → Type 0
@@ -150,18 +150,18 @@ module _ (k : StringKind) where
   last_goes s (Ok l) x is more = let e : true ≡ false = ap is_last is ∙ more in cc
   last_goes s (Err f) x is more = cc
 
-  end_goes : (start : List ℕ) (s : State) (end : Read TableEntry) → GoesOn s (end >>= λ x. part_by (kind_of start) string_parts.End x >>= flagged true)
+  end_goes : (start : List ℕ) (s : State) (end : Read TableToken) → GoesOn s (end >>= λ x. part_by (kind_of start) string_parts.End x >>= flagged true)
   end_goes start s (Ok x) = last_goes s (part_by (kind_of start) string_parts.End x)
   end_goes start s (Err f) = λ x is more. cc
 
-  -- a part is after its entry
-  text_goes : (make : List ℕ → Leaf) (s : State) (x : TableEntry × State) (text : Result (List ℕ) LiteralFault) → IsEndedPastExpression k s.depth (map significant_of x.1.left) × (x.1.depth ≡ s.depth) → GoesOn s (expressions.by_text leaves make x text >>= flagged false)
+  -- a part is after its token
+  text_goes : (make : List ℕ → Leaf) (s : State) (x : TableToken × State) (text : Result (List ℕ) LiteralFault) → IsEndedPastExpression k s.depth (map significant_of x.1.left) × (x.1.depth ≡ s.depth) → GoesOn s (expressions.by_text leaves make x text >>= flagged false)
   text_goes make s x (Ok text) h y is more =
       let P : State → Type 0 = λ t. IsEndedPastExpression k s.depth (map significant_of t.left) × (t.depth ≡ s.depth) in
       subst P (ap (rest_of s) is) h
   text_goes make s x (Err f) h y is more = cc
 
-  continue_goes : (start : List ℕ) (s : State) (x : TableEntry × State) → IsEndedPastExpression k s.depth (map significant_of x.1.left) × (x.1.depth ≡ s.depth) → GoesOn s (part_by (kind_of start) string_parts.Continue x >>= flagged false)
+  continue_goes : (start : List ℕ) (s : State) (x : TableToken × State) → IsEndedPastExpression k s.depth (map significant_of x.1.left) × (x.1.depth ≡ s.depth) → GoesOn s (part_by (kind_of start) string_parts.Continue x >>= flagged false)
   unfolding part_by
   continue_goes start s x = text_goes _ s x (cooked_format_text (kind_of start) string_parts.Continue (lexeme_of x.0.0))
 

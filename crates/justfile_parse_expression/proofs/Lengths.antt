@@ -9,7 +9,7 @@ use Rattle.justfile_model.specs.Readers.ReaderState.{is_word, same_kind}
 use Rattle.justfile_parse_expression.specs.Significant.{significant_of}
 use Rattle.justfile_parse_expression.specs.TableReader.{Run, accept_marked}
 use Rattle.justfile_parse_expression.specs.View.{state_at}
-use Rattle.justfile_parse_expression.specs.Significant.{TableEntry}
+use Rattle.justfile_parse_expression.specs.Significant.{TableToken}
 use Rattle.justfile_parse_expression.proofs.Rest.{marked_left}
 
 decided : (a b : List ℕ) (answer : Bool) → length a ≢ length b → bytes_eq a b ≡ answer → bytes_eq a b ≡ false
@@ -25,7 +25,7 @@ neither true b c e = ap (λ x. x && c) e
 neither false b c e = refl
 
 -- nothing marks the token after the next one if that is of another kind
-pub unmarked : (run : Run) (depth n : ℕ) (fs : List (ListFeature × Token)) (word : List ℕ) (kind : TokenKind) (d : TableEntry) → n + 1 < length run.table
+pub unmarked : (run : Run) (depth n : ℕ) (fs : List (ListFeature × Token)) (word : List ℕ) (kind : TokenKind) (d : TableToken) → n + 1 < length run.table
     → same_kind (get_or run.table (n + 1) d).0.kind kind ≡ false → accept_marked word kind (state_at run depth n fs) ≡ None
 unmarked run depth n fs word kind d h other =
     let mark = get_or run.table n d in

@@ -7,7 +7,7 @@ use Rattle.justfile_model.specs.Readers.ReaderState.{◌>>=◌, with}
 use Rattle.justfile_model.specs.Trees.Tree as t
 use Rattle.justfile_parse_expression.specs.Chains.{Tree, bare, negated, negation}
 use Rattle.justfile_parse_expression.specs.TableReader.{ReadExpr, State, accept, value}
-use Rattle.justfile_parse_expression.specs.Significant.{TableEntry}
+use Rattle.justfile_parse_expression.specs.Significant.{TableToken}
 use Rattle.justfile_parse_expression.proofs.Operators.{value_is}
 use Rattle.justfile_parse_expression.proofs.Rules.{then_made}
 
@@ -33,7 +33,7 @@ pub bare_is : (s : State) → accept kinds.Bang s ≡ None → value s ≡ bare 
 unfolding bare
 bare_is s h = rw (value_is s, h) refl
 
-pub goes_on : (n : ℕ) (b : TableEntry) (s rest : State) → accept kinds.Bang s ≡ Some (b, rest)
+pub goes_on : (n : ℕ) (b : TableToken) (s rest : State) → accept kinds.Bang s ≡ Some (b, rest)
     → with_bangs (suc n) (value (with (noted features.NegationOperator b.0) rest)) ≡ with_bangs n (value s)
 goes_on n b s rest h = rw (value_is s, h) (sym (regroup n (value (with (noted features.NegationOperator b.0) rest))))
 

@@ -13,11 +13,11 @@ use Rattle.justfile_model.specs.declared.level.Level.{Level}
 use Rattle.justfile_model.specs.declared.level.Level.TheVariants.{Expression, Disjunct, Compared, Conjunct, Value}
 use Rattle.justfile_vocabulary.specs.declared.list_feature.ListFeature.TheVariants as features
 use Rattle.justfile_model.specs.declared.operator.Operator.{Operator}
-use Rattle.justfile_parse_expression.specs.Chains.{row}
+use Rattle.justfile_parse_expression.specs.Chains.{chain}
 use Rattle.justfile_parse_expression.specs.TableReader as r
 use Rattle.justfile_parse_expression.specs.TableReader.{At, Read, ReadExpr, ReadError, State, accept, accept_keyword, enter, front_operator, is_within, leaves, literal, operation, operations, read, value}
 use Rattle.justfile_expression.specs.LeafTree.{Leaf}
-use Rattle.justfile_parse_expression.specs.Significant.{TableEntry}
+use Rattle.justfile_parse_expression.specs.Significant.{TableToken}
 use Rattle.justfile_model.proofs.Readers.ExpressionReading as laws
 use Rattle.justfile_parse_expression.proofs.Rules.{bind_alike, choose_alike, then_made}
 
@@ -77,9 +77,9 @@ pub conjunct_is : (c : Bool) (s : State) → read (At Conjunct c s)
     ≡ choose {X = ReadExpr} (accept_keyword (codes "if") s)
     (choose {X = ReadExpr} (accept kinds.Slash s)
     (value s >>= operation Conjunct c)
-    (λ op. row Conjunct (t.Root op.0.0) op.1))
+    (λ op. chain Conjunct (t.Root op.0.0) op.1))
     (λ w. read (r.Conditional w.0 w.1))
-unfolding expressions.conjunct_rule expressions.binary_rule operation leaves row
+unfolding expressions.conjunct_rule expressions.binary_rule operation leaves chain
 conjunct_is c s =
     laws.level_is leaves Conjunct c s
     ∙ choose_alike (accept_keyword (codes "if") s) _ _ _ _
@@ -97,7 +97,7 @@ value_is s =
 -- ---- the operators after a conjunct
 
 -- no operator comes next
-none_at : (k : Level) (s : State) (entries : List TableEntry) → front_operator entries ≡ None → operator_by leaves k s entries ≡ None
+none_at : (k : Level) (s : State) (table_tokens : List TableToken) → front_operator table_tokens ≡ None → operator_by leaves k s table_tokens ≡ None
 unfolding leaves
 none_at k s [] h = refl
 none_at k s (t ∷ ts) h = ap (λ (o : Option Operator). met_at leaves k s t ts o) h

@@ -8,7 +8,7 @@ use Rattle.justfile_token.specs.declared.token.Token.{Token}
 use Rattle.justfile_vocabulary.specs.declared.token_kind.TokenKind.{TokenKind}
 use Rattle.justfile_vocabulary.specs.declared.list_feature.ListFeature.{ListFeature}
 use Rattle.justfile_parse_expression.specs.Literal.{is_sound}
-use Rattle.justfile_parse_expression.specs.Significant.{TableEntry}
+use Rattle.justfile_parse_expression.specs.Significant.{TableToken}
 use Rattle.justfile_model.specs.Readers.ReaderState.{with_next, marked_by, marks, with}
 use Rattle.justfile_model.specs.Readers.ReaderState as reading
 use Rattle.justfile_parse_expression.specs.TableReader.{Run, State, accept_marked, begin, leaves}
@@ -18,23 +18,23 @@ use Rattle.std.proofs.Common.{is_some}
 use Rattle.justfile_parse_expression.specs.declared.parser_state.ParserState.{ParserState}
 
 module _ (run : Run) (depth n : ℕ) (fs : List (ListFeature × Token)) where
-  pub state_here : (d : TableEntry) → n < length run.table → state_at run depth n fs ≡ with_next (get_or run.table n d) (state_at run depth (n + 1) fs)
+  pub state_here : (d : TableToken) → n < length run.table → state_at run depth n fs ≡ with_next (get_or run.table n d) (state_at run depth (n + 1) fs)
   unfolding state_at
-  state_here d h = rw add-one (ap (λ (l : List TableEntry). record { run = run; depth = depth; left = l; noted = fs }) (drop-cons run.table n d h))
+  state_here d h = rw add-one (ap (λ (l : List TableToken). record { run = run; depth = depth; left = l; noted = fs }) (drop-cons run.table n d h))
 
   pub state_end : length run.table ≤ n → (state_at run depth n fs).left ≡ []
   unfolding state_at
   state_end h = drop_all n run.table h
 
-  pub marked_here : (word : List ℕ) (kind : TokenKind) (d e : TableEntry) → n + 1 < length run.table
+  pub marked_here : (word : List ℕ) (kind : TokenKind) (d e : TableToken) → n + 1 < length run.table
       → accept_marked word kind (state_at run depth n fs)
       ≡ cond (marks word kind (significant_of (get_or run.table n d)) (significant_of (get_or run.table (n + 1) e))) (Some (get_or run.table (n + 1) e, state_at run depth (n + 2) fs)) None
   unfolding reading.accept_marked leaves state_at
   marked_here word kind d e h =
       let tail : drop (n + 1) run.table ≡ get_or run.table (n + 1) e ∷ drop (n + 2) run.table = drop-cons run.table (n + 1) e h ∙ ap (λ (k : ℕ). get_or run.table (n + 1) e ∷ drop k run.table) (two n) in
       let one : drop n run.table ≡ get_or run.table n d ∷ drop (n + 1) run.table = rw add-one (drop-cons run.table n d (omega (arith, h))) in
-      let whole : drop n run.table ≡ get_or run.table n d ∷ get_or run.table (n + 1) e ∷ drop (n + 2) run.table = one ∙ ap (λ (l : List TableEntry). get_or run.table n d ∷ l) tail in
-      ap (λ (l : List TableEntry). marked_by leaves word kind (record { run = run; depth = depth; left = l; noted = fs }) l) whole
+      let whole : drop n run.table ≡ get_or run.table n d ∷ get_or run.table (n + 1) e ∷ drop (n + 2) run.table = one ∙ ap (λ (l : List TableToken). get_or run.table n d ∷ l) tail in
+      ap (λ (l : List TableToken). marked_by leaves word kind (record { run = run; depth = depth; left = l; noted = fs }) l) whole
     where
       two : (n : ℕ) → suc (n + 1) ≡ n + 2
       two n = omega arith
@@ -43,30 +43,30 @@ module _ (run : Run) (depth n : ℕ) (fs : List (ListFeature × Token)) where
   unfolding reading.accept_marked leaves state_at
   marked_end word kind h = short (drop n run.table) (omega (arith, h, length-drop n run.table))
     where
-      short : (l : List TableEntry) → length l ≤ 1 → marked_by leaves word kind (record { run = run; depth = depth; left = l; noted = fs }) l ≡ None
+      short : (l : List TableToken) → length l ≤ 1 → marked_by leaves word kind (record { run = run; depth = depth; left = l; noted = fs }) l ≡ None
       short [] h = refl
       short (x ∷ []) h = refl
       short (x ∷ y ∷ l) h = absurd (omega (arith, h))
 
-  module _ (word : List ℕ) (kind : TokenKind) (d e : TableEntry) (h : n + 1 < length run.table) where
+  module _ (word : List ℕ) (kind : TokenKind) (d e : TableToken) (h : n + 1 < length run.table) where
     pub marked_taken : marks word kind (significant_of (get_or run.table n d)) (significant_of (get_or run.table (n + 1) e)) ≡ true → accept_marked word kind (state_at run depth n fs) ≡ Some (get_or run.table (n + 1) e, state_at run depth (n + 2) fs)
-    marked_taken is = marked_here word kind d e h ∙ ap (λ (b : Bool). cond {A = Option (TableEntry × State)} b (Some (get_or run.table (n + 1) e, state_at run depth (n + 2) fs)) None) is
+    marked_taken is = marked_here word kind d e h ∙ ap (λ (b : Bool). cond {A = Option (TableToken × State)} b (Some (get_or run.table (n + 1) e, state_at run depth (n + 2) fs)) None) is
 
     pub marked_left : marks word kind (significant_of (get_or run.table n d)) (significant_of (get_or run.table (n + 1) e)) ≡ false → accept_marked word kind (state_at run depth n fs) ≡ None
-    marked_left is = marked_here word kind d e h ∙ ap (λ (b : Bool). cond {A = Option (TableEntry × State)} b (Some (get_or run.table (n + 1) e, state_at run depth (n + 2) fs)) None) is
+    marked_left is = marked_here word kind d e h ∙ ap (λ (b : Bool). cond {A = Option (TableToken × State)} b (Some (get_or run.table (n + 1) e, state_at run depth (n + 2) fs)) None) is
 
 decided : (one all : Bool) → (one ≡ false → all ≡ false) → IsTrue all → IsTrue one
 decided true all h is = search rules
 decided false all h is = let e : all ≡ false = h refl in cc
 
-pub sound_at : (table : List TableEntry) (n : ℕ) (d : TableEntry) → n < length table → IsTrue (list_all is_sound table) → IsTrue (is_sound (get_or table n d))
+pub sound_at : (table : List TableToken) (n : ℕ) (d : TableToken) → n < length table → IsTrue (list_all is_sound table) → IsTrue (is_sound (get_or table n d))
 sound_at table n d h = decided (is_sound (get_or table n d)) (list_all is_sound table) (list_all_at is_sound table n d h)
 
 pub with_none : (s : State) → with [] s ≡ s
 with_none s = ap (λ (l : List (ListFeature × Token)). record { run = s.run; depth = s.depth; left = s.left; noted = l }) (append-nil s.noted)
 
 module _ {X : Type 0} (answer : X → List ℕ → Result (List ℕ) (List ℕ)) (p : ParserState X) where
-  pub peeked : (d : TableEntry) → p.next < length p.tokens.now → state_of answer p ≡ with_next (get_or p.tokens.now p.next d) (state_from answer p (p.next + 1))
+  pub peeked : (d : TableToken) → p.next < length p.tokens.now → state_of answer p ≡ with_next (get_or p.tokens.now p.next d) (state_from answer p (p.next + 1))
   unfolding state_of
   peeked d h = state_here (run_of answer p) p.depth p.next p.list_features.items d h
 
@@ -104,7 +104,7 @@ marked_by_test true x = refl
 marked_by_test false x = refl
 
 module _ (run : Run) (depth n : ℕ) (fs : List (ListFeature × Token)) (word : List ℕ) (kind : TokenKind) where
-  pub marked_is : (d e : TableEntry) → n + 1 < length run.table
+  pub marked_is : (d e : TableToken) → n + 1 < length run.table
       → marks word kind (significant_of (get_or run.table n d)) (significant_of (get_or run.table (n + 1) e)) ≡ is_some (accept_marked word kind (state_at run depth n fs))
   marked_is d e h =
       marked_by_test (marks word kind (significant_of (get_or run.table n d)) (significant_of (get_or run.table (n + 1) e))) (get_or run.table (n + 1) e, state_at run depth (n + 2) fs)

@@ -18,13 +18,13 @@ use Rattle.justfile_parse_expression.specs.TableReader.{At, Read, ReadExpr, Stat
 use Rattle.justfile_parse_expression.specs.ValueForms.{asserted, grouped}
 use Rattle.justfile_expression.specs.LeafTree.{Leaf}
 use Rattle.justfile_model.specs.declared.level.Level.TheVariants.{Expression}
-use Rattle.justfile_parse_expression.specs.Significant.{TableEntry}
+use Rattle.justfile_parse_expression.specs.Significant.{TableToken}
 use Rattle.justfile_model.proofs.Readers.ExpressionReading as laws
 
-pub conditional_is : (w : TableEntry) (s : State) → read (r.Conditional w s) ≡ expressions.conditional_rule leaves read w s
+pub conditional_is : (w : TableToken) (s : State) → read (r.Conditional w s) ≡ expressions.conditional_rule leaves read w s
 conditional_is w s = laws.conditional_is leaves w s
 
-pub note_is : (e : Expr Leaf Token) (from : List TableEntry) (s : State) → expressions.note_uncompared leaves e from s ≡ note_first e (front from) s
+pub note_is : (e : Expr Leaf Token) (from : List TableToken) (s : State) → expressions.note_uncompared leaves e from s ≡ note_first e (front from) s
 unfolding leaves
 note_is e [] s = refl
 note_is e (t ∷ ts) s = refl
@@ -34,14 +34,14 @@ abbrev pub then_made : {A B : Type 0} → (A → B) → A × State → Read B
 then_made make x = Ok (make x.0, x.1)
 
 abbrev pub Taken : Type 0
-Taken = Option (TableEntry × State)
+Taken = Option (TableToken × State)
 
 -- ---- an expression and the delimiter after it
 
 abbrev then_closed : {A : Type 0} → TokenKind → (Expr Leaf Token → A) → Expr Leaf Token × State → Read A
 then_closed closing make e = expect closing e.1 >>= then_made (λ _. make e.0)
 
-made : {A : Type 0} (make : Expr Leaf Token → A) (e : Expr Leaf Token) (found : Read TableEntry) → (found >>= then_made (λ _. make e)) ≡ ((found >>= then_made (λ _. e)) >>= then_made make)
+made : {A : Type 0} (make : Expr Leaf Token → A) (e : Expr Leaf Token) (found : Read TableToken) → (found >>= then_made (λ _. make e)) ≡ ((found >>= then_made (λ _. e)) >>= then_made make)
 made make e (Ok x) = refl
 made make e (Err f) = refl
 
@@ -49,7 +49,7 @@ pub closed_by : {A : Type 0} (closing : TokenKind) (make : Expr Leaf Token → A
 closed_by closing make (Ok e) = made make e.0 (expect closing e.1)
 closed_by closing make (Err f) = refl
 
-pub choose_alike : {A : Type 0} (o : Taken) (x y : A) (f g : TableEntry × State → A) → x ≡ y → ((p : TableEntry × State) → f p ≡ g p) → choose o x f ≡ choose o y g
+pub choose_alike : {A : Type 0} (o : Taken) (x y : A) (f g : TableToken × State → A) → x ≡ y → ((p : TableToken × State) → f p ≡ g p) → choose o x f ≡ choose o y g
 choose_alike None x y f g e h = e
 choose_alike (Some p) x y f g e h = h p
 
@@ -78,15 +78,15 @@ assert_is s =
 
 -- ---- parts of format strings
 
-made_of_text : {A B : Type 0} (make : List ℕ → A) (f : A → B) (x : TableEntry × State) (text : Result (List ℕ) LiteralFault) → by_text leaves (λ text. f (make text)) x text ≡ (by_text leaves make x text >>= then_made f)
+made_of_text : {A B : Type 0} (make : List ℕ → A) (f : A → B) (x : TableToken × State) (text : Result (List ℕ) LiteralFault) → by_text leaves (λ text. f (make text)) x text ≡ (by_text leaves make x text >>= then_made f)
 made_of_text make f x (Ok text) = refl
 made_of_text make f x (Err fault) = refl
 
-pub string_is : (expand : Bool) (x : TableEntry × State) → literal_string expand x ≡ (string_leaf expand x >>= then_made (t.StringLiteral expand))
+pub string_is : (expand : Bool) (x : TableToken × State) → literal_string expand x ≡ (string_leaf expand x >>= then_made (t.StringLiteral expand))
 unfolding expressions.literal_string expressions.cooked string_leaf
 string_is expand x = made_of_text _ (t.StringLiteral expand) x (cooked_text (leaves.conditions x.1.run).expander (string_of expand (leaves.see x.0).tok.lexeme))
 
-pub single_is : (x : TableEntry × State) → whole_format_string x ≡ (part_by (kind_of (lexeme_of x.0.0)) string_parts.Single x >>= then_made t.FormatLiteral)
+pub single_is : (x : TableToken × State) → whole_format_string x ≡ (part_by (kind_of (lexeme_of x.0.0)) string_parts.Single x >>= then_made t.FormatLiteral)
 unfolding expressions.whole_format_string expressions.cooked part_by leaves
 single_is x = made_of_text _ t.FormatLiteral x (cooked_format_text (kind_of (lexeme_of x.0.0)) string_parts.Single (lexeme_of x.0.0))
 
@@ -116,7 +116,7 @@ rest_alike : (leaf : Leaf) (start : List ℕ) (found : ReadExpr)
 rest_alike leaf start (Ok e) = parts_alike leaf e.0 (read (expressions.FormatParts start e.1))
 rest_alike leaf start (Err f) = refl
 
-pub format_string_is : (x : TableEntry × State) → format_string x ≡ (part_by (kind_of (lexeme_of x.0.0)) string_parts.Start x >>= λ l. format_parts (lexeme_of x.0.0) l.1 >>= then_made (with_start l.0))
+pub format_string_is : (x : TableToken × State) → format_string x ≡ (part_by (kind_of (lexeme_of x.0.0)) string_parts.Start x >>= λ l. format_parts (lexeme_of x.0.0) l.1 >>= then_made (with_start l.0))
 unfolding expressions.format_string_rule expressions.format_rest_rule expressions.cooked part_by format_parts leaves
 format_string_is x =
     bind_alike (part_by (kind_of (lexeme_of x.0.0)) string_parts.Start x) _ _ (λ l. rest_alike l.0 (lexeme_of x.0.0) (read (At Expression false l.1)))

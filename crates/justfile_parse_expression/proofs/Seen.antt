@@ -15,7 +15,7 @@ use Rattle.justfile_model.proofs.Relations.Related.{AlikeConditions, Relations, 
 use Rattle.justfile_parse_expression.specs.TableReader.{Run, assigned_leaf, headed_leaf, leaves, literal_leaf}
 use Rattle.justfile_parse_expression.specs.Significant.{significant_of}
 use Rattle.justfile_expression.specs.LeafTree.{Leaf, Named, Text}
-use Rattle.justfile_parse_expression.specs.Significant.{TableEntry}
+use Rattle.justfile_parse_expression.specs.Significant.{TableToken}
 
 -- what attributes are beside those that are written
 abbrev pub Meanings : Type 1
@@ -23,7 +23,7 @@ Meanings = List (Entry Leaf Token) → List (WrittenAttribute Tok Tok) → Type 
 
 -- a reader of a table beside one of significant tokens
 abbrev pub Relates : Type 1
-Relates = Relations Run TableEntry Leaf Token (Unit {0}) (List (Entry Leaf Token)) Conditions SignificantToken Tok Tok Tok (List (WrittenAttribute Tok Tok))
+Relates = Relations Run TableToken Leaf Token (Unit {0}) (List (Entry Leaf Token)) Conditions SignificantToken Tok Tok Tok (List (WrittenAttribute Tok Tok))
 
 -- The other reads under the same conditions, but for its limit of depth, `bound`, which may be greater.
 module _ (conditions : Conditions) (bound : ℕ) (IsToken : Token → Type 0) (file_depth : ℕ) (import_offsets : List ℕ) where
@@ -40,9 +40,9 @@ module _ (conditions : Conditions) (bound : ℕ) (IsToken : Token → Type 0) (f
     pub among : IsToken token
     pub is : tok_of token ≡ tok
 
-  pub record IsEntry (entry : TableEntry) (t : SignificantToken) : Type 0 where
-    pub among : IsToken entry.0
-    pub is : significant_of entry ≡ t
+  pub record IsTableToken (table_token : TableToken) (t : SignificantToken) : Type 0 where
+    pub among : IsToken table_token.0
+    pub is : significant_of table_token ≡ t
 
   -- a leaf that is made of such a token
   pub record IsLeaf (make : Token → Leaf) (leaf : Leaf) (tok : Tok) : Type 0 where
@@ -68,7 +68,7 @@ module _ (conditions : Conditions) (bound : ℕ) (IsToken : Token → Type 0) (f
   seen AreMeant = record {
     run = IsRun;
     looser = conditions.limit < bound;
-    token = IsEntry;
+    token = IsTableToken;
     position = IsPosition;
     name = IsLeaf (λ token. Named token None);
     literal = IsLiteralLeaf;
@@ -83,8 +83,8 @@ module _ (conditions : Conditions) (bound : ℕ) (IsToken : Token → Type 0) (f
 
   -- ---- what the two make of tokens
 
-  named : (make : Token → Leaf) (entry : TableEntry) (t : SignificantToken) → IsEntry entry t → IsLeaf make (make entry.0) t.tok
-  named make entry t h = record { token = entry.0; among = h.among; is = refl; tok_is = ap (λ (s : SignificantToken). s.tok) (sym h.is) }
+  named : (make : Token → Leaf) (table_token : TableToken) (t : SignificantToken) → IsTableToken table_token t → IsLeaf make (make table_token.0) t.tok
+  named make table_token t h = record { token = table_token.0; among = h.among; is = refl; tok_is = ap (λ (s : SignificantToken). s.tok) (sym h.is) }
 
   assigned_is : (run : Run) (C : Conditions) → IsRun run C → (token : Token) (number : ℕ) → assigned_leaf run token number ≡ assigned_leaf in_run token number
   assigned_is run C h token number = rw h.file_depth_is refl
@@ -111,11 +111,11 @@ module _ (conditions : Conditions) (bound : ℕ) (IsToken : Token → Type 0) (f
   unfolding leaves
   respects AreMeant = record {
     conditions = λ run C h. limits_alike AreMeant run C h (eq-or-lt_of_le h.within);
-    see = λ entry t h. h.is;
-    position = λ entry t h. record { among = h.among; is = ap (λ (s : SignificantToken). s.tok) h.is };
-    name = λ entry t h. named (λ token. Named token None) entry t h;
-    literal = λ run C entry t r h l text lexeme cooked. record {
-      token = entry.0;
+    see = λ table_token t h. h.is;
+    position = λ table_token t h. record { among = h.among; is = ap (λ (s : SignificantToken). s.tok) h.is };
+    name = λ table_token t h. named (λ token. Named token None) table_token t h;
+    literal = λ run C table_token t r h l text lexeme cooked. record {
+      token = table_token.0;
       among = h.among;
       lexeme = lexeme;
       text = text;
@@ -123,13 +123,13 @@ module _ (conditions : Conditions) (bound : ℕ) (IsToken : Token → Type 0) (f
       is = refl;
       tok_is = ap (λ (s : SignificantToken). s.tok) (sym h.is);
     };
-    text = λ entry t h. named Text entry t h;
-    star = λ entry t h. tt;
-    assignment = λ run C entry t r h number.
-        subst (λ (leaf : Leaf). IsLeaf (λ token. assigned_leaf in_run token number) leaf t.tok) (sym (assigned_is run C r entry.0 number)) (named (λ token. assigned_leaf in_run token number) entry t h);
-    recipe = λ run C entry t r h number body lines same.
-        subst (λ (leaf : Leaf). IsLeaf (λ token. headed_leaf in_run token number) leaf t.tok) (sym (headed_is run C r entry.0 number)) (named (λ token. headed_leaf in_run token number) entry t h);
-    parameter = λ run C entry t r h same number. named (λ token. Named token (Some (number_of number))) entry t h;
-    function_parameter = λ run C entry t r h number. named (λ token. Named token (Some (number_of number))) entry t h;
+    text = λ table_token t h. named Text table_token t h;
+    star = λ table_token t h. tt;
+    assignment = λ run C table_token t r h number.
+        subst (λ (leaf : Leaf). IsLeaf (λ token. assigned_leaf in_run token number) leaf t.tok) (sym (assigned_is run C r table_token.0 number)) (named (λ token. assigned_leaf in_run token number) table_token t h);
+    recipe = λ run C table_token t r h number body lines same.
+        subst (λ (leaf : Leaf). IsLeaf (λ token. headed_leaf in_run token number) leaf t.tok) (sym (headed_is run C r table_token.0 number)) (named (λ token. headed_leaf in_run token number) table_token t h);
+    parameter = λ run C table_token t r h same number. named (λ token. Named token (Some (number_of number))) table_token t h;
+    function_parameter = λ run C table_token t r h number. named (λ token. Named token (Some (number_of number))) table_token t h;
     has_number = λ n h. refl;
   }

@@ -12,7 +12,7 @@ use Rattle.justfile_model.specs.Trees.Tree.{Expr}
 use Rattle.justfile_token.specs.declared.token.Token.{Token}
 use Rattle.justfile_expression.specs.LeafTree.{Leaf}
 use Rattle.justfile_parse_expression.specs.Chains.{bare}
-use Rattle.justfile_parse_expression.specs.Significant.{TableEntry, significant_of}
+use Rattle.justfile_parse_expression.specs.Significant.{TableToken, significant_of}
 use Rattle.justfile_parse_expression.specs.TableReader as r
 use Rattle.justfile_parse_expression.specs.TableReader.{Read, ReadExpr, State, accept, accept_keyword, accept_marked, leaves}
 use Rattle.justfile_parse_expression.specs.ValueForms as values
@@ -56,7 +56,7 @@ bare_is s = bare_by (accept kinds.StringToken s) (accept_marked (codes "x") kind
 
 -- ---- where a form comes next, nothing else is read
 
-alone : (o : Taken) (a b : ReadExpr) (f : TableEntry × State → ReadExpr) → is_some o ≡ true → choose o a f ≡ choose o b f
+alone : (o : Taken) (a b : ReadExpr) (f : TableToken × State → ReadExpr) → is_some o ≡ true → choose o a f ≡ choose o b f
 alone (Some x) a b f h = refl
 alone None a b f h = absurd cc
 
@@ -109,7 +109,7 @@ module _ (s : State) where
 
 -- ---- by the kind of the first token
 
-module _ (m : TableEntry) (rest : State) where
+module _ (m : TableToken) (rest : State) where
   abbrev here : State
   here = with_next m rest
 
@@ -133,7 +133,7 @@ module _ (m : TableEntry) (rest : State) where
   unfolding reading.accept_marked leaves
   mark_left word kind other = by_next rest.left
     where
-      by_next : (ts : List TableEntry) → marked_by leaves word kind here (m ∷ ts) ≡ None
+      by_next : (ts : List TableToken) → marked_by leaves word kind here (m ∷ ts) ≡ None
       by_next [] = refl
       by_next (t ∷ ts) = ap (λ (b : Bool). cond {A = Taken} (b && same_kind t.0.kind kind && t.1) (Some (t, reading.at here ts)) None) (no_word word other)
 
@@ -177,7 +177,7 @@ unlike a b h = by_answer (same_kind a b) refl
     by_answer true is = absurd (h (same_true the_type tt _ _ is))
     by_answer false is = is
 
-module _ (m : TableEntry) (rest : State) where
+module _ (m : TableToken) (rest : State) where
   like : (k kind : TokenKind) (b : Bool) → m.0.kind ≡ k → same_kind k kind ≡ b → same_kind m.0.kind kind ≡ b
   like k kind b is h = ap (λ (x : TokenKind). same_kind x kind) is ∙ h
 
@@ -236,11 +236,11 @@ module _ (s : State) (word : BeginsWord s) where
   unfolding reading.accept leaves same_kind
   other_left kind other = by_left s.left word
     where
-      by_test : (t : TableEntry) (ts : List TableEntry) (b : Bool) → same_kind t.0.kind kinds.Identifier ≡ b → IsTrue (is_some (cond {A = Taken} b (Some (t, reading.at s ts)) None)) → cond {A = Taken} (same_kind t.0.kind kind) (Some (t, reading.at s ts)) None ≡ None
+      by_test : (t : TableToken) (ts : List TableToken) (b : Bool) → same_kind t.0.kind kinds.Identifier ≡ b → IsTrue (is_some (cond {A = Taken} b (Some (t, reading.at s ts)) None)) → cond {A = Taken} (same_kind t.0.kind kind) (Some (t, reading.at s ts)) None ≡ None
       by_test t ts true is h = ap (λ (b : Bool). cond {A = Taken} b (Some (t, reading.at s ts)) None) (like t s kinds.Identifier kind false (same_true the_type tt _ _ is) other)
       by_test t ts false is h = absurd cc
 
-      by_left : (ts : List TableEntry) → IsTrue (is_some (reading.accept_by leaves (λ t. same_kind t.tok.kind kinds.Identifier) s ts)) → reading.accept_by leaves (λ t. same_kind t.tok.kind kind) s ts ≡ None
+      by_left : (ts : List TableToken) → IsTrue (is_some (reading.accept_by leaves (λ t. same_kind t.tok.kind kinds.Identifier) s ts)) → reading.accept_by leaves (λ t. same_kind t.tok.kind kind) s ts ≡ None
       by_left [] h = absurd cc
       by_left (t ∷ ts) h = by_test t ts (same_kind t.0.kind kinds.Identifier) refl h
 

@@ -1,4 +1,4 @@
--- Expressions that nest to the right, as a row of links: each link holds what comes before its right side.
+-- Expressions that nest to the right, as a chain of links: each link holds what comes before its right side.
 use Rattle.std.specs.Prelude.{ℕ, zero, suc, Bool, false, List, [], ◌∷◌, Option, Some, None, Ok, codes}
 use Rattle.justfile_token.specs.declared.token.Token.{Token}
 use Rattle.justfile_vocabulary.specs.declared.list_feature.ListFeature.TheVariants as features
@@ -22,13 +22,13 @@ use Rattle.justfile_parse_expression.specs.declared.expression.Link as links
 use Rattle.justfile_parse_expression.specs.declared.expression.Link.TheVariants as link_variants
 use Rattle.justfile_parse_expression.specs.declared.expression.Step as steps
 use Rattle.justfile_parse_expression.specs.declared.expression.Step.TheVariants as step_variants
-use Rattle.justfile_parse_expression.specs.Significant.{TableEntry}
+use Rattle.justfile_parse_expression.specs.Significant.{TableToken}
 use Rattle.justfile_expression.specs.LeafTree.{Leaf, leaf_tree_of}
 
 abbrev pub Tree : Type 0
 Tree = Expr Leaf Token
 
--- what comes next in a row: its last expression, or the function that a link applies to its right side
+-- what comes next in a chain: its last expression, or the function that a link applies to its right side
 pub data StepTree : Type 0 where
   Last : Tree → StepTree
   Next : (Tree → Tree) → StepTree
@@ -42,18 +42,18 @@ abbrev pub step_of : steps.Step → StepTree
 step_of (step_variants.Last e) = Last (leaf_tree_of e.value)
 step_of (step_variants.Next l) = Next (link_of l)
 
-abbrev pub row_tree : List links.Link → (last : Tree) → Tree
-row_tree [] last = last
-row_tree (l ∷ ls) last = link_of l (row_tree ls last)
+abbrev pub chain_tree : List links.Link → (last : Tree) → Tree
+chain_tree [] last = last
+chain_tree (l ∷ ls) last = link_of l (chain_tree ls last)
 
--- closes the expressions that the links of a row are part of: at the loosest level, each right side is an expression of its own.
--- Before them `join_row` closes two more: the last expression, and that of the last link, which isn't in the row.
-abbrev pub row_closed : Level → List links.Link → State → State
-row_closed k [] s = s
-row_closed k (l ∷ ls) s = closed k (row_closed k ls s)
+-- closes the expressions that the links of a chain are part of: at the loosest level, each right side is an expression of its own.
+-- Before them `join_chain` closes two more: the last expression, and that of the last link, which isn't in the chain.
+abbrev pub chain_closed : Level → List links.Link → State → State
+chain_closed k [] s = s
+chain_closed k (l ∷ ls) s = closed k (chain_closed k ls s)
 
 -- what follows a left side: the operator, if there is one
-abbrev pub link_by : (condition : Bool) → Tree × State → Option (Operator × TableEntry × State) → Read StepTree
+abbrev pub link_by : (condition : Bool) → Tree × State → Option (Operator × TableToken × State) → Read StepTree
 link_by c l None = Ok (Last l.0, l.1)
 link_by c l (Some op) = Ok (Next (binary op.0 l.0 op.1.0), with (noted_if (feature_of op.0 c) op.1.0) op.2)
 
@@ -69,7 +69,7 @@ operand_step s =
     (λ op. Ok (Next (tree.Root op.0.0), op.1)))
     (λ w. read (r.Conditional w.0 w.1) >>= λ e. Ok (Last e.0, e.1))
 
--- what comes next in a row, after an operator of the level; comparisons form no rows
+-- what comes next in a chain, after an operator of the level; comparisons form no chains
 unfoldable pub step : Level → State → Read StepTree
 step Expression s = enter Expression s >>= λ o. read (At (operand Expression) false o.1) >>= link Expression
 step Disjunct s = enter Disjunct s >>= λ o. read (At (operand Disjunct) false o.1) >>= link Disjunct
@@ -78,15 +78,15 @@ step Conjunct s = operand_step s
 step Value s = value s >>= λ e. Ok (Last e.0, e.1)
 
 -- the right side of an operator of the level, joined with its link
-unfoldable pub row : Level → (make : Tree → Tree) → State → ReadExpr
-row k make s = read (At (right k) false s) >>= λ e. Ok (make e.0, closed k e.1)
+unfoldable pub chain : Level → (make : Tree → Tree) → State → ReadExpr
+chain k make s = read (At (right k) false s) >>= λ e. Ok (make e.0, closed k e.1)
 
 -- ---- conditionals
 
 -- what comes next in a conditional: its end, or a branch and the `if` of the conditional after it
 pub data BranchTree : Type 0 where
   End : Tree → BranchTree
-  ElseIf : (Tree → Tree) → TableEntry → BranchTree
+  ElseIf : (Tree → Tree) → TableToken → BranchTree
 
 abbrev pub branch_of : arms.Branch → BranchTree
 branch_of (branch_variants.Last e) = End (leaf_tree_of e.value)
@@ -96,7 +96,7 @@ branch_of (branch_variants.Next l word) = ElseIf (link_of l) word.now
 unfoldable pub last_branch : State → ReadExpr
 last_branch s = braced s >>= λ o. r.ended_by (ends_open o.0) o.0 o.1
 
-unfoldable pub branch : (word : TableEntry) → State → Read BranchTree
+unfoldable pub branch : (word : TableToken) → State → Read BranchTree
 branch word s =
     condition s >>= λ c.
     braced c.1 >>= λ b.
@@ -108,7 +108,7 @@ branch word s =
     (λ i. Ok (ElseIf (tree.IfElse c.0 b.0) i.0, i.1)))
 
 -- a conditional after its `if`, joined with the branch before it
-unfoldable pub branches : (make : Tree → Tree) → (word : TableEntry) → State → ReadExpr
+unfoldable pub branches : (make : Tree → Tree) → (word : TableToken) → State → ReadExpr
 branches make word s = read (r.Conditional word s) >>= λ e. Ok (make e.0, e.1)
 
 -- ---- values

@@ -15,7 +15,7 @@ use Rattle.justfile_model.specs.Lexing.Tok.{Tok}
 use Rattle.justfile_model.specs.Trees.Tree.{Expr, Parts, Last, Continue, itself}
 use Rattle.justfile_parse_expression.specs.Literal.{is_sound}
 use Rattle.justfile_parse_expression.specs.Significant.{significant_of}
-use Rattle.justfile_parse_expression.specs.Significant.{TableEntry}
+use Rattle.justfile_parse_expression.specs.Significant.{TableToken}
 use Rattle.justfile_parse_expression.specs.TableReader.{State}
 
 abbrev pub last_of : Parts Tok Tok → Tok
@@ -30,11 +30,11 @@ IsEnded kind depth tokens = (ps : Parts Tok Tok) (features : List (Noted Tok)) (
 unfoldable pub IsEndedPastExpression : StringKind → ℕ → Tokens → Type 0
 IsEndedPastExpression kind depth tokens = (e : Expr Tok Tok) (features : List (Noted Tok)) (rest : Tokens) → grammar.Expression itself itself AnyDepth false depth e features tokens rest → IsEnded kind depth rest
 
--- If the entries that are left derive parts of a format string, the last part ends with the delimiter of this kind.
+-- If the tokens that are left derive parts of a format string, the last part ends with the delimiter of this kind.
 unfoldable pub IsEndedAt : StringKind → State → Type 0
 IsEndedAt kind s = IsEnded kind s.depth (map significant_of s.left)
 
--- If the entries that are left derive an expression and then parts of a format string, the last part ends with the delimiter of this kind.
+-- If the tokens that are left derive an expression and then parts of a format string, the last part ends with the delimiter of this kind.
 unfoldable pub IsEndedFrom : StringKind → State → Type 0
 IsEndedFrom kind s = IsEndedPastExpression kind s.depth (map significant_of s.left)
 
@@ -43,7 +43,7 @@ unfoldable pub AreEnded : Tokens → Type 0
 AreEnded tokens = (before : Tokens) (start : SignificantToken) (following : Tokens) → tokens ≡ before ++ start ∷ following → IsKind FormatStringStart start → (depth : ℕ) → IsEndedPastExpression (kind_of start.tok.lexeme) depth following
 
 -- The table isn't empty, its literals are delimited, and its format strings end with the delimiter of their start.
-abbrev pub IsTable : List TableEntry → Type 0
+abbrev pub IsTable : List TableToken → Type 0
 IsTable table = (0 < length table) × IsTrue (list_all is_sound table) × AreEnded (map significant_of table)
 
 pub prop_ended : (tokens : Tokens) → IsProp (AreEnded tokens)

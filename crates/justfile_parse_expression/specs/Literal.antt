@@ -7,7 +7,7 @@ use Rattle.justfile_vocabulary.specs.declared.format_string_part.FormatStringPar
 use Rattle.justfile_vocabulary.specs.declared.token_kind.TokenKind.{TokenKind}
 use Rattle.justfile_vocabulary.specs.declared.token_kind.TokenKind.TheVariants as kinds
 use Rattle.justfile_literal.specs.Literal.{is_quoted, is_part}
-use Rattle.justfile_parse_expression.specs.Significant.{TableEntry}
+use Rattle.justfile_parse_expression.specs.Significant.{TableToken}
 
 -- a literal is quoted, a part of a format string that another follows has its delimiters, and a comment begins with `#`
 abbrev pub is_delimited : TokenKind → List ℕ → Bool
@@ -18,9 +18,9 @@ is_delimited kinds.FormatStringContinue lexeme = is_part (kind_of lexeme) parts.
 is_delimited kinds.Comment lexeme = starts_with nat_eq lexeme (codes "#")
 is_delimited _ lexeme = true
 
-abbrev pub is_sound : TableEntry → Bool
-is_sound entry = is_delimited entry.0.kind (lexeme_of entry.0)
+abbrev pub is_sound : TableToken → Bool
+is_sound table_token = is_delimited table_token.0.kind (lexeme_of table_token.0)
 
--- The entry is of this kind, and delimited if it is a literal or a comment.
-abbrev pub IsOf : TokenKind → TableEntry → Type 0
-IsOf kind entry = (entry.0.kind ≡ kind) × IsTrue (is_sound entry)
+-- The token is of this kind, and delimited if it is a literal or a comment.
+abbrev pub IsOf : TokenKind → TableToken → Type 0
+IsOf kind table_token = (table_token.0.kind ≡ kind) × IsTrue (is_sound table_token)

@@ -9,7 +9,7 @@ use Rattle.justfile_model.specs.Readers.ReaderState as state
 use Rattle.justfile_model.specs.Readers.ReaderState.{refused}
 use Rattle.justfile_parse_expression.specs.TableReader as table
 use Rattle.justfile_parse_expression.specs.TableReader.{Read, State}
-use Rattle.justfile_parse_expression.specs.Significant.{TableEntry}
+use Rattle.justfile_parse_expression.specs.Significant.{TableToken}
 use Rattle.justfile_parse_expression.specs.declared.expression_error.SyntaxError.{SyntaxError}
 use Rattle.justfile_parse_expression.specs.declared.expression_error.SyntaxError.TheVariants.{Unexpected, TooDeep}
 use Rattle.justfile_parse_expression.specs.declared.expression_error.ExpressionError.{ExpressionError}
@@ -19,12 +19,12 @@ use Rattle.justfile_parse_expression.specs.declared.expression_error.ExpressionE
 unfoldable pub literal_read_error : CompileError → table.ReadError
 literal_read_error error = state.NotCooked (literal_fault error.kind) error.token
 
--- the read error at the next entry
+-- the read error at the next token
 abbrev pub read_error_at : SyntaxError → State → table.ReadError
 read_error_at Unexpected s = refused state.Unexpected s
 read_error_at TooDeep s = refused state.TooDeep s
 
--- The error is that of the definitions: the next entry or a literal is refused; or numbers ran out, and `IsShort` holds. Running out of
+-- The error is that of the definitions: the next token or a literal is refused; or numbers ran out, and `IsShort` holds. Running out of
 -- memory implies nothing.
 abbrev pub IsExpressionError : {Y : Type 0} → ExpressionError → State → (IsShort : Type 0) → Result Y table.ReadError → Type 0
 IsExpressionError (causes.Refused refusal) s IsShort found = found ≡ Err (read_error_at refusal s)
@@ -37,9 +37,9 @@ abbrev pub Reads : {X Y : Type 0} → (X → Y) → Result X ExpressionError →
 Reads view (Ok x) s found = found ≡ Ok (view x, s)
 Reads view (Err cause) s found = IsExpressionError cause s ⊥ found
 
--- The next entry, if one is left, and the state after it.
-abbrev pub Peeks : Option (Bor TableEntry) → (here next : State) → Type 0
-Peeks (Some entry) here next = here ≡ state.with_next entry.now next
+-- The next token, if one is left, and the state after it.
+abbrev pub Peeks : Option (Bor TableToken) → (here next : State) → Type 0
+Peeks (Some table_token) here next = here ≡ state.with_next table_token.now next
 Peeks None here next = here.left ≡ []
 
 -- What was taken, and the state after it, are what the definitions take; nothing was taken if they take nothing.
@@ -47,10 +47,10 @@ abbrev pub Takes : {X : Type 0} → Option X → State → Option (X × State) �
 Takes (Some x) s found = found ≡ Some (x, s)
 Takes None s found = found ≡ None
 
--- `Takes` of an entry of the table
-abbrev pub TakesEntry : Option (Bor TableEntry) → State → Option (TableEntry × State) → Type 0
-TakesEntry (Some entry) s found = found ≡ Some (entry.now, s)
-TakesEntry None s found = found ≡ None
+-- `Takes` of a token of the table
+abbrev pub TakesTableToken : Option (Bor TableToken) → State → Option (TableToken × State) → Type 0
+TakesTableToken (Some table_token) s found = found ≡ Some (table_token.now, s)
+TakesTableToken None s found = found ≡ None
 
 -- `Holds` applies to what was returned, or memory ran out.
 abbrev pub UnlessMemory : {X : Type 0} → Result X ExpressionError → (X → Type 0) → Type 0

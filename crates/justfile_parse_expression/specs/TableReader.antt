@@ -25,12 +25,12 @@ use Rattle.justfile_model.specs.declared.level.Level.{Level}
 use Rattle.justfile_model.specs.declared.level.Level.TheVariants.{Expression, Disjunct, Compared, Conjunct, Value}
 use Rattle.justfile_model.specs.Trees.Operators.{operator_of}
 use Rattle.justfile_model.specs.declared.operator.Operator.{Operator}
-use Rattle.justfile_parse_expression.specs.Significant.{TableEntry}
+use Rattle.justfile_parse_expression.specs.Significant.{TableToken}
 
 -- what stays the same while a file is read
 pub record Run : Type 0 where
   pub conditions : Conditions
-  pub table : List TableEntry
+  pub table : List TableToken
   pub file_depth : ℕ
   pub import_offsets : List ℕ
 
@@ -52,7 +52,7 @@ assigned_leaf run name number = Assigned (record { file_depth = run.file_depth; 
 abbrev pub headed_leaf : Run → Token → ℕ → Leaf
 headed_leaf run name number = Headed (record { file_depth = run.file_depth; import_offsets = run.import_offsets; name = name; number = number_of number })
 
-unfoldable pub leaves : Leaves Run TableEntry Leaf Token (Unit {0})
+unfoldable pub leaves : Leaves Run TableToken Leaf Token (Unit {0})
 leaves = record {
   conditions = λ run. run.conditions;
   see = significant_of;
@@ -71,28 +71,28 @@ leaves = record {
 -- ---- the reader of tables
 
 abbrev pub State : Type 0
-State = reading.State Run TableEntry Token
+State = reading.State Run TableToken Token
 
 -- the state at the front of a table, with no expression open
 abbrev pub begin : Run → State
 begin run = record { run = run; depth = 0; left = run.table; noted = [] }
 
 abbrev pub ReadError : Type 0
-ReadError = reading.ReadError TableEntry Token
+ReadError = reading.ReadError TableToken Token
 
 abbrev pub Read : Type 0 → Type 0
-Read X = reading.Read Run TableEntry Token X
+Read X = reading.Read Run TableToken Token X
 
 abbrev pub ReadExpr : Type 0
 ReadExpr = Read (Expr Leaf Token)
 
 abbrev pub Place : Type 0
-Place = expressions.Place Run TableEntry Token
+Place = expressions.Place Run TableToken Token
 
 abbrev pub At : Level → (condition : Bool) → State → Place
 At level condition s = expressions.At level condition s
 
-abbrev pub Conditional : TableEntry → State → Place
+abbrev pub Conditional : TableToken → State → Place
 Conditional word s = expressions.Conditional word s
 
 abbrev pub Sequence : TokenKind → State → Place
@@ -101,46 +101,46 @@ Sequence closing s = expressions.Sequence closing s
 abbrev pub read : (x : Place) → expressions.Out leaves x
 read = expressions.read leaves
 
-abbrev pub accept : TokenKind → State → Option (TableEntry × State)
+abbrev pub accept : TokenKind → State → Option (TableToken × State)
 accept = reading.accept leaves
 
-abbrev pub accept_keyword : List ℕ → State → Option (TableEntry × State)
+abbrev pub accept_keyword : List ℕ → State → Option (TableToken × State)
 accept_keyword = reading.accept_keyword leaves
 
-abbrev pub accept_marked : List ℕ → TokenKind → State → Option (TableEntry × State)
+abbrev pub accept_marked : List ℕ → TokenKind → State → Option (TableToken × State)
 accept_marked = reading.accept_marked leaves
 
 -- whether an expression may be opened
 abbrev pub is_within : Level → State → Bool
 is_within level s = expressions.is_within s.run.conditions.limit level s
 
-abbrev pub accept_operator : Level → State → Option (Operator × TableEntry × State)
+abbrev pub accept_operator : Level → State → Option (Operator × TableToken × State)
 accept_operator = expressions.accept_operator leaves
 
-abbrev pub expect : TokenKind → State → Read TableEntry
+abbrev pub expect : TokenKind → State → Read TableToken
 expect = reading.expect leaves
 
 abbrev pub next_are : List TokenKind → State → Bool
 next_are = reading.next_are leaves
 
 -- a string, with its text expanded or not
-unfoldable pub string_leaf : (expanded : Bool) → TableEntry × State → Read Leaf
+unfoldable pub string_leaf : (expanded : Bool) → TableToken × State → Read Leaf
 string_leaf expanded = expressions.cooked leaves (λ leaf. leaf) (literals.string_of expanded)
 
-abbrev pub literal_string : (expanded : Bool) → TableEntry × State → ReadExpr
+abbrev pub literal_string : (expanded : Bool) → TableToken × State → ReadExpr
 literal_string = expressions.literal_string leaves
 
-abbrev pub whole_format_string : TableEntry × State → ReadExpr
+abbrev pub whole_format_string : TableToken × State → ReadExpr
 whole_format_string = expressions.whole_format_string leaves
 
-abbrev pub backtick : TableEntry × State → ReadExpr
+abbrev pub backtick : TableToken × State → ReadExpr
 backtick = expressions.backtick leaves
 
 abbrev pub literal : State → Read (Option (Expr Leaf Token))
 literal = expressions.literal leaves
 
 -- a part of a format string with delimiters of a kind
-unfoldable pub part_by : StringKind → FormatStringPart → TableEntry × State → Read Leaf
+unfoldable pub part_by : StringKind → FormatStringPart → TableToken × State → Read Leaf
 part_by kind part x =
     expressions.by_text leaves (λ text. Literal (record { token = x.0.0; cooked = text; expand = false; kind = kind; part = Some part })) x (cooked_format_text kind part (lexeme_of x.0.0))
 
@@ -164,7 +164,7 @@ operations Conjunct condition lhs = Ok lhs
 operations Value condition lhs = Ok lhs
 
 -- the operator that comes next, if one does
-abbrev pub front_operator : List TableEntry → Option Operator
+abbrev pub front_operator : List TableToken → Option Operator
 front_operator [] = None
 front_operator (t ∷ ts) = operator_of t.0.kind
 
@@ -178,8 +178,8 @@ enclosed closing s = do
 abbrev pub condition : State → ReadExpr
 condition = expressions.condition leaves
 
--- notes a condition that isn't a comparison, at its first entry
-abbrev pub note_first : Expr Leaf Token → (first : Option TableEntry) → State → State
+-- notes a condition that isn't a comparison, at its first token
+abbrev pub note_first : Expr Leaf Token → (first : Option TableToken) → State → State
 note_first e None s = s
 note_first e (Some first) s = with (uncompared e first.0) s
 
@@ -206,7 +206,7 @@ format_parts start s = do
   ps ← read (expressions.FormatParts start e.1)
   Ok ((λ leaf. tree.FormatString leaf e.0 ps.0), ps.1)
 
-abbrev pub format_string : TableEntry × State → ReadExpr
+abbrev pub format_string : TableToken × State → ReadExpr
 format_string = expressions.format_string leaves
 
 abbrev pub value : State → ReadExpr
@@ -222,7 +222,7 @@ abbrev pub name : State → ReadExpr
 name = expressions.name leaves
 
 -- a call, after its name and the opening parenthesis
-unfoldable pub call : TableEntry → State → ReadExpr
+unfoldable pub call : TableToken → State → ReadExpr
 call word s = do
   es ← read (expressions.Sequence kinds.ParenR s)
   Ok (tree.Call (Named word.0 None) es.0, with (called (lexeme_of word.0) word.0) es.1)

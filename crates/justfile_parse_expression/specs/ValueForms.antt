@@ -7,7 +7,7 @@ use Rattle.justfile_parse_expression.specs.TableReader as r
 use Rattle.justfile_parse_expression.specs.TableReader.{ReadExpr, State, accept, accept_keyword, accept_marked, condition, enclosed, expect}
 use Rattle.justfile_parse_expression.specs.declared.value.ValueForm.{ValueForm}
 use Rattle.justfile_parse_expression.specs.declared.value.ValueForm.TheVariants as forms
-use Rattle.justfile_parse_expression.specs.Significant.{TableEntry}
+use Rattle.justfile_parse_expression.specs.Significant.{TableToken}
 use Rattle.justfile_expression.specs.LeafTree.{Named}
 
 -- no value comes next
@@ -33,7 +33,7 @@ unfoldable pub format_string : State → ReadExpr
 format_string s = choose (accept_marked (codes "f") kinds.FormatStringStart s) (missing s) r.format_string
 
 -- an assertion, after its word
-abbrev pub asserted : TableEntry × State → ReadExpr
+abbrev pub asserted : TableToken × State → ReadExpr
 asserted w = do
   o ← expect kinds.ParenL w.1
   c ← condition o.1
@@ -49,14 +49,14 @@ unfoldable pub assertion : State → ReadExpr
 assertion s = choose (accept_keyword (codes "assert") s) (missing s) asserted
 
 -- a variable or a call, after its name
-abbrev pub named : TableEntry × State → ReadExpr
+abbrev pub named : TableToken × State → ReadExpr
 named n = choose (accept kinds.ParenL n.1) (Ok (tree.Variable (Named n.0.0 None), n.1)) (λ o. r.call n.0 o.1)
 
 unfoldable pub name : State → ReadExpr
 name s = choose (accept kinds.Identifier s) (missing s) named
 
 -- a group, after its opening parenthesis
-abbrev pub grouped : TableEntry × State → ReadExpr
+abbrev pub grouped : TableToken × State → ReadExpr
 grouped o = do
   e ← enclosed kinds.ParenR o.1
   Ok (tree.Group e.0, e.1)

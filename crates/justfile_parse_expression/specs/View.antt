@@ -13,18 +13,18 @@ module _ {X : Type 0} (answer : X → List ℕ → Result (List ℕ) (List ℕ))
   abbrev pub run_of : ParserState X → Run
   run_of p = record { conditions = conditions_of answer p.expander.now p.current p.limit; table = p.tokens.now; file_depth = p.file_depth; import_offsets = p.import_offsets.now }
 
-  -- the state of the parser if entry `n` were next
+  -- the state of the parser if token `n` of the table were next
   abbrev pub state_from : ParserState X → ℕ → State
   state_from p n = state_at (run_of p) p.depth n p.list_features.items
 
   unfoldable pub state_of : ParserState X → State
   state_of p = state_from p p.next
 
--- how many entries are left
+-- how many tokens of the table are left
 unfoldable pub tokens_left : {X : Type 0} → ParserState X → ℕ
 tokens_left p = length p.tokens.now - p.next
 
--- If something was taken, fewer entries are left. If nothing was, the parser is unchanged.
+-- If something was taken, fewer tokens are left. If nothing was, the parser is unchanged.
 abbrev pub Moves : {X Y : Type 0} → Option Y → (old new : ParserState X) → Type 0
 Moves (Some y) old new = tokens_left new < tokens_left old
 Moves None old new = new ≡ old

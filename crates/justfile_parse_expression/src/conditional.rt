@@ -60,14 +60,14 @@ impl<'run, 'src, X: Expander> ParserState<'run, 'src, X> {
             (chains.branches (link_of first.entry) word.now) }
         ensures progress { OnOk result (tokens_left self.new < tokens_left self.old) }
     {
-        let mut row = Vec::new(self.alloc);
+        let mut chain = Vec::new(self.alloc);
         let mut link = first;
         let mut word = *word;
         'branches: loop {
             match self.parse_branch(&word)? {
-                Branch::Last(last) => return self.join_row(row, link, last, Level::Conjunct),
+                Branch::Last(last) => return self.join_chain(chain, link, last, Level::Conjunct),
                 Branch::Next(next, after) => {
-                    row.push(link)?;
+                    chain.push(link)?;
                     link = next;
                     word = *after;
                 }
@@ -186,7 +186,7 @@ impl<'run, 'src, X: Expander> ParserState<'run, 'src, X> {
             return Ok(());
         }
         match self.peek() {
-            Some(entry) if is_word(entry, Keyword::Else.lexeme()) => {
+            Some(table_token) if is_word(table_token, Keyword::Else.lexeme()) => {
                 self.expected_tokens.add_operators_to(Level::Expression);
                 Err(ExpressionError::Refused(SyntaxError::Unexpected))
             }

@@ -1,12 +1,12 @@
 //! How expressions are parsed: the operators of each level and their operands.
 //!
-//! Constructs that can nest to the right without limit are parsed in loops, as a row of links: each
+//! Constructs that can nest to the right without limit are parsed in loops, as a chain of links: each
 //! link holds what comes before its right side.
 ghost use Rattle.std.specs.Prelude.{◌≡◌, ◌<◌, ◌≤◌, IsTrue, false, Ok, OnOk, IfSome, IfNone, Some, None};
 ghost use Rattle.justfile_model.specs.Readers.ExpressionReader.{closed};
 ghost use Rattle.justfile_model.specs.Trees.Operators.{is_binary};
 ghost use Rattle.justfile_parse_expression.specs.Chains as chains;
-ghost use Rattle.justfile_parse_expression.specs.Chains.{link_of, row_closed, row_tree, step_of};
+ghost use Rattle.justfile_parse_expression.specs.Chains.{link_of, chain_closed, chain_tree, step_of};
 ghost use Rattle.justfile_parse_expression.specs.TableReader as reader;
 ghost use Rattle.justfile_parse_expression.specs.MethodResults.{UnlessMemory};
 ghost use Rattle.justfile_parse_expression.specs.ParsedResults.{Parses};
@@ -44,7 +44,7 @@ pub(crate) enum Link<'run, 'src> {
     },
 }
 
-/// What comes next in a row: its last expression, or a link, after which the row goes on.
+/// What comes next in a chain: its last expression, or a link, after which the chain goes on.
 #[derive(Drop)]
 pub(crate) enum Step<'run, 'src> {
     Last(Box<Expression<'src>>),
@@ -105,37 +105,37 @@ impl<'run, 'src, X: Expander> ParserState<'run, 'src, X> {
             let lhs = self.parse_value()?;
             return self.parse_operation(lhs, Level::Conjunct, condition);
         };
-        self.parse_row(Link::Root { token }, Level::Conjunct)
+        self.parse_chain(Link::Root { token }, Level::Conjunct)
     }
 
     /// Parses the right side of an operator of a level, and joins it with its link. Operators of
-    /// one level nest to the right, so the right side is a row of any length.
+    /// one level nest to the right, so the right side is a chain of any length.
     #[cycle(expression)]
     #[tactic(auto, using(crate::proofs::Chains::begins, crate::proofs::Chains::goes_on, crate::proofs::Chains::ends, crate::proofs::Chains::stops))]
     #[inline(never)]
-    fn parse_row(
+    fn parse_chain(
         &mut self,
         first: Link<'run, 'src>,
         level: Level,
     ) -> Result<Box<Expression<'src>>, ExpressionError<'src>>
         ensures reads { Parses X.answer (λ e. leaf_tree_of e.value) result self.old self.new
-            (chains.row level (link_of first.entry)) }
+            (chains.chain level (link_of first.entry)) }
         ensures progress { OnOk result (tokens_left self.new ≤ tokens_left self.old) }
     {
-        let mut row = Vec::new(self.alloc);
+        let mut chain = Vec::new(self.alloc);
         let mut link = first;
-        'row: loop {
+        'chain: loop {
             match self.parse_step(level)? {
-                Step::Last(last) => return self.join_row(row, link, last, level),
+                Step::Last(last) => return self.join_chain(chain, link, last, level),
                 Step::Next(next) => {
-                    row.push(link)?;
+                    chain.push(link)?;
                     link = next;
                 }
             }
         }
     }
 
-    /// Parses the next part of a row, after an operator of the level. Comparisons don't form rows.
+    /// Parses the next part of a chain, after an operator of the level. Comparisons don't form chains.
     #[cycle(expression)]
     #[tactic(auto, unfolding(crate::specs::Chains::step))]
     fn parse_step(&mut self, level: Level) -> Result<Step<'run, 'src>, ExpressionError<'src>>
@@ -228,7 +228,7 @@ impl<'run, 'src, X: Expander> ParserState<'run, 'src, X> {
     /// Parses an operator of a level after its left side, and its right side. Returns the left side
     /// alone if there is no such operator.
     #[cycle(expression)]
-    #[tactic(auto, unfolding(crate::specs::TableReader::operation, crate::specs::TableReader::leaves, crate::specs::Chains::row))]
+    #[tactic(auto, unfolding(crate::specs::TableReader::operation, crate::specs::TableReader::leaves, crate::specs::Chains::chain))]
     #[inline(always)]
     fn parse_operation(
         &mut self,
@@ -247,7 +247,7 @@ impl<'run, 'src, X: Expander> ParserState<'run, 'src, X> {
             return Ok(lhs);
         };
         self.note_if(find_feature(operator, condition), *token)?;
-        self.parse_row(
+        self.parse_chain(
             Link::Operation {
                 lhs,
                 operator,
@@ -277,28 +277,28 @@ impl<'run, 'src, X: Expander> ParserState<'run, 'src, X> {
         Ok(expression)
     }
 
-    /// Joins the links of a row with its last expression: first `link`, the last one, which isn't
+    /// Joins the links of a chain with its last expression: first `link`, the last one, which isn't
     /// in the vector, and then those in it, from the last to the first. Closes the expression that
     /// each link is part of.
-    #[tactic(auto, using(crate::proofs::Chains::row_pushed, crate::proofs::Chains::closed_pushed))]
-    pub(crate) fn join_row(
+    #[tactic(auto, using(crate::proofs::Chains::chain_pushed, crate::proofs::Chains::closed_pushed))]
+    pub(crate) fn join_chain(
         &mut self,
-        row: Vec<Link<'run, 'src>>,
+        chain: Vec<Link<'run, 'src>>,
         link: Link<'run, 'src>,
         last: Box<Expression<'src>>,
         level: Level,
     ) -> Result<Box<Expression<'src>>, ExpressionError<'src>>
         ensures reads { Parses X.answer (λ e. leaf_tree_of e.value) result self.old self.new
             (λ s. Ok (
-              row_tree row.entry.items (link_of link.entry (leaf_tree_of last.entry.value)),
-              row_closed level row.entry.items (closed level (closed level s)),
+              chain_tree chain.entry.items (link_of link.entry (leaf_tree_of last.entry.value)),
+              chain_closed level chain.entry.items (closed level (closed level s)),
             )) }
         ensures stays { OnOk result (tokens_left self.new ≡ tokens_left self.old) }
     {
         self.leave(level);
         let mut whole = self.join_link(link, last, level)?;
-        let mut row = row;
-        while let Some(link) = row.pop() {
+        let mut chain = chain;
+        while let Some(link) = chain.pop() {
             whole = self.join_link(link, whole, level)?;
         }
         Ok(whole)
@@ -377,13 +377,13 @@ impl<'run, 'src, X: Expander> ParserState<'run, 'src, X> {
             (reader.accept_operator level (state_of X.answer self.old) ≡ None) }
         ensures moves { Moves result self.old self.new }
     {
-        let entry = self.peek()?;
-        let (token, _) = entry;
+        let table_token = self.peek()?;
+        let (token, _) = table_token;
         let operator = find_operator(token.kind)?;
         if is_at(level, operator) {
             self.next += 1;
             self.expected_tokens.clear();
-            Some((operator, entry))
+            Some((operator, table_token))
         } else {
             None
         }

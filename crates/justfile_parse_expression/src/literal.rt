@@ -34,17 +34,17 @@ impl<'run, 'src, X: Expander> ParserState<'run, 'src, X> {
             values.literal }
         ensures progress { OnOk result (tokens_left self.new < tokens_left self.old) }
     {
-        if let Some(entry) = self.accept_unrecorded(TokenKind::StringToken) {
-            return self.cook_string(entry, false);
+        if let Some(table_token) = self.accept_unrecorded(TokenKind::StringToken) {
+            return self.cook_string(table_token, false);
         }
-        if let Some(entry) = self.accept_marked(Keyword::X, TokenKind::StringToken) {
-            return self.cook_string(entry, true);
+        if let Some(table_token) = self.accept_marked(Keyword::X, TokenKind::StringToken) {
+            return self.cook_string(table_token, true);
         }
-        if let Some(entry) = self.accept_marked(Keyword::F, TokenKind::StringToken) {
-            return self.cook_single(entry);
+        if let Some(table_token) = self.accept_marked(Keyword::F, TokenKind::StringToken) {
+            return self.cook_single(table_token);
         }
         match self.accept_unrecorded(TokenKind::Backtick) {
-            Some(entry) => self.cook_backtick(entry),
+            Some(table_token) => self.cook_backtick(table_token),
             None => self.refuse_value(),
         }
     }
@@ -54,20 +54,20 @@ impl<'run, 'src, X: Expander> ParserState<'run, 'src, X> {
     #[tactic(auto, using(crate::proofs::Cooked::quoted_string))]
     fn cook_string(
         &self,
-        entry: &'run SignificantToken<'src>,
+        table_token: &'run SignificantToken<'src>,
         expand: bool,
     ) -> Result<Box<Expression<'src>>, ExpressionError<'src>>
-        requires { IsOf kinds.StringToken entry.now }
+        requires { IsOf kinds.StringToken table_token.now }
         ensures reads { Parses X.answer (λ e. leaf_tree_of e.value) result self.now self.now
-            (λ s. reader.literal_string expand (entry.now, s)) }
+            (λ s. reader.literal_string expand (table_token.now, s)) }
     {
         if !expand {
-            let (token, _) = entry;
+            let (token, _) = table_token;
             if let Some(text) = verbatim_text(token.lexeme()) {
-                return self.box_verbatim(entry, text);
+                return self.box_verbatim(table_token, text);
             }
         }
-        self.box_cooked(entry, expand)
+        self.box_cooked(table_token, expand)
     }
 
     /// Makes the expression for a string whose text has to be cooked or expanded. It isn't inlined,
@@ -76,14 +76,14 @@ impl<'run, 'src, X: Expander> ParserState<'run, 'src, X> {
     #[tactic(auto, using(crate::proofs::Rules::string_is))]
     fn box_cooked(
         &self,
-        entry: &'run SignificantToken<'src>,
+        table_token: &'run SignificantToken<'src>,
         expand: bool,
     ) -> Result<Box<Expression<'src>>, ExpressionError<'src>>
-        requires { IsOf kinds.StringToken entry.now }
+        requires { IsOf kinds.StringToken table_token.now }
         ensures reads { Parses X.answer (λ e. leaf_tree_of e.value) result self.now self.now
-            (λ s. reader.literal_string expand (entry.now, s)) }
+            (λ s. reader.literal_string expand (table_token.now, s)) }
     {
-        let string_literal = self.cook_literal(entry, expand)?;
+        let string_literal = self.cook_literal(table_token, expand)?;
         self.box_expression(Expression::StringLiteral { string_literal })
     }
 
@@ -92,14 +92,14 @@ impl<'run, 'src, X: Expander> ParserState<'run, 'src, X> {
     #[tactic(auto, using(crate::proofs::Rules::string_is))]
     fn box_verbatim(
         &self,
-        entry: &'run SignificantToken<'src>,
+        table_token: &'run SignificantToken<'src>,
         text: &str,
     ) -> Result<Box<Expression<'src>>, ExpressionError<'src>>
-        requires { string_text (lexeme_of entry.now.0) ≡ Ok text.now }
+        requires { string_text (lexeme_of table_token.now.0) ≡ Ok text.now }
         ensures reads { Parses X.answer (λ e. leaf_tree_of e.value) result self.now self.now
-            (λ s. reader.literal_string false (entry.now, s)) }
+            (λ s. reader.literal_string false (table_token.now, s)) }
     {
-        let string_literal = self.copy_literal(entry, text)?;
+        let string_literal = self.copy_literal(table_token, text)?;
         self.box_expression(Expression::StringLiteral { string_literal })
     }
 
@@ -108,26 +108,26 @@ impl<'run, 'src, X: Expander> ParserState<'run, 'src, X> {
     #[tactic(auto, using(crate::proofs::Cooked::verbatim_given))]
     fn copy_literal(
         &self,
-        entry: &'run SignificantToken<'src>,
+        table_token: &'run SignificantToken<'src>,
         text: &str,
     ) -> Result<StringLiteral<'src>, ExpressionError<'src>>
-        requires { string_text (lexeme_of entry.now.0) ≡ Ok text.now }
+        requires { string_text (lexeme_of table_token.now.0) ≡ Ok text.now }
         ensures reads { Parses X.answer (λ l. Literal (literal_of l)) result self.now self.now
-            (λ s. reader.string_leaf false (entry.now, s)) }
+            (λ s. reader.string_leaf false (table_token.now, s)) }
         ensures expand { IfOk result (λ l. l.expand ≡ false) }
     {
-        let (token, _) = entry;
+        let (token, _) = table_token;
         let cooked = text.to_string(self.alloc)?;
         Ok(StringLiteral {
             cooked,
             expand: false,
-            kind: find_kind(entry),
+            kind: find_kind(table_token),
             part: None,
             token: *token,
         })
     }
 
-    /// Makes the literal for a string, with its text expanded if `expand`. Requires that the entry
+    /// Makes the literal for a string, with its text expanded if `expand`. Requires that the token
     /// is a string.
     ///
     /// # Errors
@@ -136,15 +136,15 @@ impl<'run, 'src, X: Expander> ParserState<'run, 'src, X> {
     #[tactic(auto, using(crate::proofs::Cooked::quoted_string, crate::proofs::Cooked::string_given, crate::proofs::Cooked::string_refused, crate::proofs::Cooked::is_literal))]
     pub fn cook_literal(
         &self,
-        entry: &'run SignificantToken<'src>,
+        table_token: &'run SignificantToken<'src>,
         expand: bool,
     ) -> Result<StringLiteral<'src>, ExpressionError<'src>>
-        requires { IsOf kinds.StringToken entry.now }
+        requires { IsOf kinds.StringToken table_token.now }
         ensures reads { Parses X.answer (λ l. Literal (literal_of l)) result self.now self.now
-            (λ s. reader.string_leaf expand (entry.now, s)) }
+            (λ s. reader.string_leaf expand (table_token.now, s)) }
         ensures expand { IfOk result (λ l. l.expand ≡ expand) }
     {
-        let (token, _) = entry;
+        let (token, _) = table_token;
         match string_literal(self.alloc, *token, expand, self.expander) {
             Ok(literal) => Ok(literal),
             Err(fault) => Err(literal_error(self.alloc, fault)),
@@ -155,13 +155,13 @@ impl<'run, 'src, X: Expander> ParserState<'run, 'src, X> {
     #[tactic(auto, using(crate::proofs::Cooked::quoted_command, crate::proofs::Cooked::command_given, crate::proofs::Cooked::command_refused, crate::proofs::Cooked::command_is_literal))]
     fn cook_backtick(
         &self,
-        entry: &'run SignificantToken<'src>,
+        table_token: &'run SignificantToken<'src>,
     ) -> Result<Box<Expression<'src>>, ExpressionError<'src>>
-        requires { IsOf kinds.Backtick entry.now }
+        requires { IsOf kinds.Backtick table_token.now }
         ensures reads { Parses X.answer (λ e. leaf_tree_of e.value) result self.now self.now
-            (λ s. reader.backtick (entry.now, s)) }
+            (λ s. reader.backtick (table_token.now, s)) }
     {
-        let (token, _) = entry;
+        let (token, _) = table_token;
         match command(self.alloc, *token) {
             Ok(contents) => Ok(self.box_expression(Expression::Backtick {
                 contents,
@@ -175,13 +175,17 @@ impl<'run, 'src, X: Expander> ParserState<'run, 'src, X> {
     #[tactic(auto, using(crate::proofs::Cooked::framed_single, crate::proofs::Rules::single_is))]
     fn cook_single(
         &self,
-        entry: &'run SignificantToken<'src>,
+        table_token: &'run SignificantToken<'src>,
     ) -> Result<Box<Expression<'src>>, ExpressionError<'src>>
-        requires { IsOf kinds.StringToken entry.now }
+        requires { IsOf kinds.StringToken table_token.now }
         ensures reads { Parses X.answer (λ e. leaf_tree_of e.value) result self.now self.now
-            (λ s. reader.whole_format_string (entry.now, s)) }
+            (λ s. reader.whole_format_string (table_token.now, s)) }
     {
-        let literal = self.cook_part(entry, find_kind(entry), FormatStringPart::Single)?;
+        let literal = self.cook_part(
+            table_token,
+            find_kind(table_token),
+            FormatStringPart::Single,
+        )?;
         self.box_expression(make_format_string(literal, Vec::new(self.alloc)))
     }
 
@@ -189,15 +193,15 @@ impl<'run, 'src, X: Expander> ParserState<'run, 'src, X> {
     #[tactic(auto, using(crate::proofs::Cooked::part_given, crate::proofs::Cooked::part_refused, crate::proofs::Cooked::is_literal))]
     pub(crate) fn cook_part(
         &self,
-        entry: &'run SignificantToken<'src>,
+        table_token: &'run SignificantToken<'src>,
         kind: StringKind,
         part: FormatStringPart,
     ) -> Result<StringLiteral<'src>, ExpressionError<'src>>
-        requires framed { IsTrue (is_part kind part (lexeme_of entry.now.0)) }
+        requires framed { IsTrue (is_part kind part (lexeme_of table_token.now.0)) }
         ensures reads { Parses X.answer (λ l. Literal (literal_of l)) result self.now self.now
-            (λ s. reader.part_by kind part (entry.now, s)) }
+            (λ s. reader.part_by kind part (table_token.now, s)) }
     {
-        let (token, _) = entry;
+        let (token, _) = table_token;
         match format_part(self.alloc, *token, kind, part) {
             Ok(literal) => Ok(literal),
             Err(fault) => Err(literal_error(self.alloc, fault)),
@@ -206,10 +210,10 @@ impl<'run, 'src, X: Expander> ParserState<'run, 'src, X> {
 }
 
 /// Returns how the literal is delimited.
-pub(crate) fn find_kind(entry: &SignificantToken<'_>) -> StringKind
-    ensures { result ≡ kind_of (lexeme_of entry.now.0) }
+pub(crate) fn find_kind(table_token: &SignificantToken<'_>) -> StringKind
+    ensures { result ≡ kind_of (lexeme_of table_token.now.0) }
 {
-    let (token, _) = entry;
+    let (token, _) = table_token;
     StringKind::of_opening(token.lexeme().as_bytes())
 }
 

@@ -11,7 +11,7 @@ ghost use Rattle.justfile_parse_expression.specs.Literal.{IsOf, is_sound};
 ghost use Rattle.justfile_model.specs.Readers.ReaderState.{at, is_word, marks};
 ghost use Rattle.justfile_model.specs.Meanings.Versions.{version_numbers};
 ghost use Rattle.justfile_parse_expression.specs.TableReader as reader;
-ghost use Rattle.justfile_parse_expression.specs.MethodResults.{Peeks, Reads, TakesEntry};
+ghost use Rattle.justfile_parse_expression.specs.MethodResults.{Peeks, Reads, TakesTableToken};
 ghost use Rattle.justfile_parse_expression.specs.Significant.{significant_of};
 
 use crate::expected_tokens::ExpectedTokens;
@@ -116,7 +116,7 @@ impl<'run, 'src, X: Expander> ParserState<'run, 'src, X> {
         ensures { result ≡ front (state_of X.answer self.now).left }
     {
         match self.peek() {
-            Some(entry) => Some(*entry),
+            Some(table_token) => Some(*table_token),
             None => None,
         }
     }
@@ -124,31 +124,31 @@ impl<'run, 'src, X: Expander> ParserState<'run, 'src, X> {
     /// Returns the next token if it is of this kind, without taking it.
     pub fn peek_if(&self, kind: TokenKind) -> Option<&'run SignificantToken<'src>>
         ensures within { OnSome result (self.now.next < length self.now.tokens.now) }
-        ensures takes { TakesEntry result (state_from X.answer self.now (self.now.next + 1))
+        ensures takes { TakesTableToken result (state_from X.answer self.now (self.now.next + 1))
             (reader.accept kind (state_of X.answer self.now)) }
-        ensures entry { IfSome result (λ entry. IsOf kind entry.now) }
+        ensures table_token { IfSome result (λ table_token. IsOf kind table_token.now) }
     {
-        let Some(entry) = self.probe_if(kind) else {
+        let Some(table_token) = self.probe_if(kind) else {
             self.expected_tokens.add(kind);
             return None;
         };
-        Some(entry)
+        Some(table_token)
     }
 
     /// Takes the next token if it is this keyword.
     #[tactic(auto, unfolding(crate::specs::TableReader::leaves, justfile_model::specs::Readers::ReaderState::accept_keyword, crate::specs::View::state_of, crate::specs::View::tokens_left))]
     #[inline(always)]
     pub fn accept_keyword(&mut self, keyword: Keyword) -> Option<&'run SignificantToken<'src>>
-        ensures takes { TakesEntry result (state_of X.answer self.new)
+        ensures takes { TakesTableToken result (state_of X.answer self.new)
             (reader.accept_keyword (keyword_text keyword) (state_of X.answer self.old)) }
         ensures moves { Moves result self.old self.new }
-        ensures kind { IfSome result (λ entry. entry.now.0.kind ≡ kinds.Identifier) }
+        ensures kind { IfSome result (λ table_token. table_token.now.0.kind ≡ kinds.Identifier) }
     {
-        let entry = self.peek()?;
-        if is_word(entry, keyword.lexeme()) {
+        let table_token = self.peek()?;
+        if is_word(table_token, keyword.lexeme()) {
             self.next += 1;
             self.expected_tokens.clear();
-            Some(entry)
+            Some(table_token)
         } else {
             None
         }
@@ -162,7 +162,7 @@ impl<'run, 'src, X: Expander> ParserState<'run, 'src, X> {
             ≡ is_some (reader.accept_keyword (keyword_text keyword) (state_of X.answer self.now)) }
     {
         match self.peek() {
-            Some(entry) => is_word(entry, keyword.lexeme()),
+            Some(table_token) => is_word(table_token, keyword.lexeme()),
             None => false,
         }
     }
@@ -177,10 +177,10 @@ impl<'run, 'src, X: Expander> ParserState<'run, 'src, X> {
         mark: Keyword,
         kind: TokenKind,
     ) -> Option<&'run SignificantToken<'src>>
-        ensures takes { TakesEntry result (state_of X.answer self.new)
+        ensures takes { TakesTableToken result (state_of X.answer self.new)
             (reader.accept_marked (keyword_text mark) kind (state_of X.answer self.old)) }
         ensures moves { Moves result self.old self.new }
-        ensures entry { IfSome result (λ entry. IsOf kind entry.now) }
+        ensures table_token { IfSome result (λ table_token. IsOf kind table_token.now) }
     {
         if self.is_second(kind) {
             return self.take_marked(mark, kind);
@@ -212,20 +212,20 @@ impl<'run, 'src, X: Expander> ParserState<'run, 'src, X> {
         mark: Keyword,
         kind: TokenKind,
     ) -> Option<&'run SignificantToken<'src>>
-        ensures takes { TakesEntry result (state_of X.answer self.new)
+        ensures takes { TakesTableToken result (state_of X.answer self.new)
             (reader.accept_marked (keyword_text mark) kind (state_of X.answer self.old)) }
         ensures moves { Moves result self.old self.new }
-        ensures entry { IfSome result (λ entry. IsOf kind entry.now) }
+        ensures table_token { IfSome result (λ table_token. IsOf kind table_token.now) }
     {
         if self.tokens.len() - self.next < 2 {
             return None;
         }
         let first = &self.tokens[self.next];
-        let entry = &self.tokens[self.next + 1];
-        if is_marked(first, mark.lexeme(), entry, kind) {
+        let table_token = &self.tokens[self.next + 1];
+        if is_marked(first, mark.lexeme(), table_token, kind) {
             self.next += 2;
             self.expected_tokens.clear();
-            Some(entry)
+            Some(table_token)
         } else {
             None
         }
@@ -255,8 +255,8 @@ impl<'run, 'src, X: Expander> ParserState<'run, 'src, X> {
             return false;
         }
         let first = &self.tokens[self.next];
-        let entry = &self.tokens[self.next + 1];
-        is_marked(first, mark.lexeme(), entry, kind)
+        let table_token = &self.tokens[self.next + 1];
+        is_marked(first, mark.lexeme(), table_token, kind)
     }
 
     /// Takes the next token, which has to be of this kind.
@@ -269,29 +269,29 @@ impl<'run, 'src, X: Expander> ParserState<'run, 'src, X> {
         &mut self,
         kind: TokenKind,
     ) -> Result<&'run SignificantToken<'src>, ExpressionError<'src>>
-        ensures reads { Reads (λ entry. entry.now) result (state_of X.answer self.new)
+        ensures reads { Reads (λ table_token. table_token.now) result (state_of X.answer self.new)
             (reader.expect kind (state_of X.answer self.old)) }
         ensures progress { OnOk result (tokens_left self.new < tokens_left self.old) }
-        ensures kind { IfOk result (λ entry. entry.now.0.kind ≡ kind) }
+        ensures kind { IfOk result (λ table_token. table_token.now.0.kind ≡ kind) }
     {
         match self.accept(kind) {
-            Some(entry) => Ok(entry),
+            Some(table_token) => Ok(table_token),
             None => Err(ExpressionError::Refused(SyntaxError::Unexpected)),
         }
     }
 
     /// Takes the next token if it is of this kind.
     pub fn accept(&mut self, kind: TokenKind) -> Option<&'run SignificantToken<'src>>
-        ensures takes { TakesEntry result (state_of X.answer self.new)
+        ensures takes { TakesTableToken result (state_of X.answer self.new)
             (reader.accept kind (state_of X.answer self.old)) }
         ensures moves { Moves result self.old self.new }
-        ensures entry { IfSome result (λ entry. IsOf kind entry.now) }
+        ensures table_token { IfSome result (λ table_token. IsOf kind table_token.now) }
     {
-        let Some(entry) = self.accept_unrecorded(kind) else {
+        let Some(table_token) = self.accept_unrecorded(kind) else {
             self.expected_tokens.add(kind);
             return None;
         };
-        Some(entry)
+        Some(table_token)
     }
 
     /// Takes the next token if it is of this kind. Doesn't add the kind to the expected tokens: the
@@ -301,15 +301,15 @@ impl<'run, 'src, X: Expander> ParserState<'run, 'src, X> {
         &mut self,
         kind: TokenKind,
     ) -> Option<&'run SignificantToken<'src>>
-        ensures takes { TakesEntry result (state_of X.answer self.new)
+        ensures takes { TakesTableToken result (state_of X.answer self.new)
             (reader.accept kind (state_of X.answer self.old)) }
         ensures moves { Moves result self.old self.new }
-        ensures entry { IfSome result (λ entry. IsOf kind entry.now) }
+        ensures table_token { IfSome result (λ table_token. IsOf kind table_token.now) }
     {
-        let entry = self.probe_if(kind)?;
+        let table_token = self.probe_if(kind)?;
         self.next += 1;
         self.expected_tokens.clear();
-        Some(entry)
+        Some(table_token)
     }
 
     /// Returns the next token if it is of this kind, without taking it. Doesn't add the kind to the
@@ -317,12 +317,12 @@ impl<'run, 'src, X: Expander> ParserState<'run, 'src, X> {
     #[tactic(auto, unfolding(crate::specs::TableReader::leaves, justfile_model::specs::Readers::ReaderState::accept, justfile_model::specs::Readers::ReaderState::same_kind))]
     pub fn probe_if(&self, kind: TokenKind) -> Option<&'run SignificantToken<'src>>
         ensures within { OnSome result (self.now.next < length self.now.tokens.now) }
-        ensures takes { TakesEntry result (state_from X.answer self.now (self.now.next + 1))
+        ensures takes { TakesTableToken result (state_from X.answer self.now (self.now.next + 1))
             (reader.accept kind (state_of X.answer self.now)) }
-        ensures entry { IfSome result (λ entry. IsOf kind entry.now) }
+        ensures table_token { IfSome result (λ table_token. IsOf kind table_token.now) }
     {
         match self.peek() {
-            Some(entry @ (token, _)) if token.kind == kind => Some(entry),
+            Some(table_token @ (token, _)) if token.kind == kind => Some(table_token),
             _ => None,
         }
     }
@@ -333,7 +333,7 @@ impl<'run, 'src, X: Expander> ParserState<'run, 'src, X> {
         ensures within { OnSome result (self.now.next < length self.now.tokens.now) }
         ensures peeks { Peeks result (state_of X.answer self.now)
             (state_from X.answer self.now (self.now.next + 1)) }
-        ensures sound { IfSome result (λ entry. IsTrue (is_sound entry.now)) }
+        ensures sound { IfSome result (λ table_token. IsTrue (is_sound table_token.now)) }
     {
         if self.next < self.tokens.len() {
             Some(&self.tokens[self.next])
@@ -404,14 +404,14 @@ impl<'run, 'src, X: Expander> ParserState<'run, 'src, X> {
 pub(crate) fn is_marked(
     mark: &SignificantToken<'_>,
     word: &str,
-    entry: &SignificantToken<'_>,
+    table_token: &SignificantToken<'_>,
     kind: TokenKind,
 ) -> bool
     ensures marked { result
-        ≡ marks word.now kind (significant_of mark.now) (significant_of entry.now) }
-    ensures kind { IsTrue result → entry.now.0.kind ≡ kind }
+        ≡ marks word.now kind (significant_of mark.now) (significant_of table_token.now) }
+    ensures kind { IsTrue result → table_token.now.0.kind ≡ kind }
 {
-    let (token, glued) = entry;
+    let (token, glued) = table_token;
     token.kind == kind && *glued && is_word(mark, word)
 }
 
@@ -419,11 +419,11 @@ pub(crate) fn is_marked(
 /// from the word.
 #[tactic(auto, using(crate::proofs::Lengths::unequal), unfolding(justfile_model::specs::Readers::ReaderState::is_word, justfile_model::specs::Readers::ReaderState::same_kind))]
 #[inline(always)]
-pub fn is_word(entry: &SignificantToken<'_>, word: &str) -> bool
-    ensures word { result ≡ is_word word.now (significant_of entry.now) }
-    ensures kind { IsTrue result → entry.now.0.kind ≡ kinds.Identifier }
+pub fn is_word(table_token: &SignificantToken<'_>, word: &str) -> bool
+    ensures word { result ≡ is_word word.now (significant_of table_token.now) }
+    ensures kind { IsTrue result → table_token.now.0.kind ≡ kinds.Identifier }
 {
-    let (token, _) = entry;
+    let (token, _) = table_token;
     if token.kind != TokenKind::Identifier {
         return false;
     }

@@ -1,4 +1,4 @@
-//! The entries of the table that the parser reads.
+//! The table of tokens that the parser reads.
 
 use justfile_token::Token;
 

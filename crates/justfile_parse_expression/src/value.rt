@@ -271,12 +271,16 @@ impl<'run, 'src, X: Expander> ParserState<'run, 'src, X> {
             self.old self.new (reader.part (lexeme_of start.now.0)) }
         ensures progress { OnOk result (tokens_left self.new < tokens_left self.old) }
     {
-        if let Some(entry) = self.accept(TokenKind::FormatStringContinue) {
-            let literal = self.cook_part(entry, find_kind(start), FormatStringPart::Continue)?;
+        if let Some(table_token) = self.accept(TokenKind::FormatStringContinue) {
+            let literal = self.cook_part(
+                table_token,
+                find_kind(start),
+                FormatStringPart::Continue,
+            )?;
             return Ok((literal, false));
         }
-        let entry = self.expect(TokenKind::FormatStringEnd)?;
-        let literal = self.cook_part(entry, find_kind(start), FormatStringPart::End)?;
+        let table_token = self.expect(TokenKind::FormatStringEnd)?;
+        let literal = self.cook_part(table_token, find_kind(start), FormatStringPart::End)?;
         Ok((literal, true))
     }
 
@@ -320,26 +324,26 @@ impl<'run, 'src, X: Expander> ParserState<'run, 'src, X> {
             values.name }
         ensures progress { OnOk result (tokens_left self.new < tokens_left self.old) }
     {
-        let Some(entry) = self.accept_unrecorded(TokenKind::Identifier) else {
+        let Some(table_token) = self.accept_unrecorded(TokenKind::Identifier) else {
             return self.refuse_value();
         };
         let Some(_opening) = self.accept(TokenKind::ParenL) else {
-            return self.box_variable(entry);
+            return self.box_variable(table_token);
         };
-        self.parse_call(entry)
+        self.parse_call(table_token)
     }
 
     /// Makes the expression for a variable, in a box.
     #[inline(never)]
     fn box_variable(
         &self,
-        entry: &'run SignificantToken<'src>,
+        table_token: &'run SignificantToken<'src>,
     ) -> Result<Box<Expression<'src>>, ExpressionError<'src>>
-        requires { entry.now.0.kind ≡ kinds.Identifier }
+        requires { table_token.now.0.kind ≡ kinds.Identifier }
         ensures { UnlessMemory result (λ e. leaf_tree_of e.value
-            ≡ tree.Variable (Named entry.now.0 None)) }
+            ≡ tree.Variable (Named table_token.now.0 None)) }
     {
-        let (token, _) = entry;
+        let (token, _) = table_token;
         self.box_expression(Expression::Variable {
             name: Name::from_identifier(*token),
             number: None,
@@ -352,14 +356,14 @@ impl<'run, 'src, X: Expander> ParserState<'run, 'src, X> {
     #[inline(never)]
     fn parse_call(
         &mut self,
-        entry: &'run SignificantToken<'src>,
+        table_token: &'run SignificantToken<'src>,
     ) -> Result<Box<Expression<'src>>, ExpressionError<'src>>
-        requires { entry.now.0.kind ≡ kinds.Identifier }
+        requires { table_token.now.0.kind ≡ kinds.Identifier }
         ensures reads { Parses X.answer (λ e. leaf_tree_of e.value) result self.old self.new
-            (reader.call entry.now) }
+            (reader.call table_token.now) }
         ensures progress { OnOk result (tokens_left self.new < tokens_left self.old) }
     {
-        let (token, _) = entry;
+        let (token, _) = table_token;
         let arguments = self.parse_sequence(TokenKind::ParenR)?;
         self.note_if(find_function_feature(token.lexeme()), *token)?;
         let name = Name::from_identifier(*token);

@@ -57,7 +57,7 @@ use Rattle.justfile_parse_item.specs.Tree.{item_tree, numbered_leaf}
 use Rattle.justfile_expression.specs.LeafTree.{Leaf}
 use Rattle.justfile_parse_file.specs.WantsNumber as wants
 use Rattle.justfile_parse_file.specs.WantsNumber.{AreLines, BeginsAssignment, BeginsHeader, LacksNumber, WantsNumber, a_line, at_name, at_once, binding, name_number, no_line, parameter_number, quiet, recipe_number}
-use Rattle.justfile_parse_expression.specs.Significant.{TableEntry}
+use Rattle.justfile_parse_expression.specs.Significant.{TableToken}
 use Rattle.justfile_parse_expression.specs.declared.expression_error.LiteralError.{LiteralError}
 use Rattle.justfile_parse_expression.specs.declared.expression_error.SyntaxError.{SyntaxError}
 use Rattle.justfile_parse_expression.specs.declared.expression_error.SyntaxError.TheVariants.{Unexpected, TooDeep}
@@ -66,7 +66,7 @@ use Rattle.justfile_parse_expression.specs.declared.expression_error.ExpressionE
 use Rattle.justfile_parse_expression.proofs.Cooked.{kind_is_due}
 use Rattle.justfile_parse_file.proofs.ErrorTokens.{extraneous_held, keyword_held, literal_held, rule_held, unexpected_held, unknown_held, variadic_held}
 use Rattle.justfile_parse_file.proofs.Tables.{in_table}
-use Rattle.justfile_parse_expression.proofs.Seen.{IsEntry, Relates}
+use Rattle.justfile_parse_expression.proofs.Seen.{IsTableToken, Relates}
 use Rattle.justfile_parse_item.proofs.Seen.{respects, seen}
 use Rattle.justfile_parse_item.proofs.SeenAttributes.{IsKept, attributed}
 use Rattle.justfile_parse_file.proofs.SeenDocs.{items_seen}
@@ -110,7 +110,7 @@ module _ (run : Run) (bound : ℕ) (within : run.conditions.limit ≤ bound) whe
   abbrev conditions : Conditions
   conditions = run.conditions
 
-  abbrev table : List TableEntry
+  abbrev table : List TableToken
   table = run.table
 
   abbrev file_depth : ℕ
@@ -131,14 +131,14 @@ module _ (run : Run) (bound : ℕ) (within : run.conditions.limit ≤ bound) whe
   abbrev begin : State
   begin = table_reader.begin run
 
-  each_entry : (es : List TableEntry) → All (λ (e : TableEntry). IsInTable table e.0) es → Each (IsEntry conditions bound (IsInTable table) file_depth import_offsets) es (map significant_of es)
-  each_entry [] h = a.nil
-  each_entry (e ∷ es) h =
-      let P : TableEntry → Type 0 = λ (e : TableEntry). IsInTable table e.0 in
-      a.cons (record { among = All-head P e es h; is = refl }) (each_entry es (All-tail P e es h))
+  each_table_token : (es : List TableToken) → All (λ (e : TableToken). IsInTable table e.0) es → Each (IsTableToken conditions bound (IsInTable table) file_depth import_offsets) es (map significant_of es)
+  each_table_token [] h = a.nil
+  each_table_token (e ∷ es) h =
+      let P : TableToken → Type 0 = λ (e : TableToken). IsInTable table e.0 in
+      a.cons (record { among = All-head P e es h; is = refl }) (each_table_token es (All-tail P e es h))
 
   begin_alike : States rel begin (start_state others tokens)
-  begin_alike = record { run = record { conditions_are = refl; same = refl; within = within; file_depth_is = refl; import_offsets_are = refl }; depth = refl; left = each_entry table (λ k d h. in_table table k d h); noted = a.nil }
+  begin_alike = record { run = record { conditions_are = refl; same = refl; within = within; file_depth_is = refl; import_offsets_are = refl }; depth = refl; left = each_table_token table (λ k d h. in_table table k d h); noted = a.nil }
 
   -- items, the counters after them, and what is left
   abbrev Pair : Type 0
@@ -155,7 +155,7 @@ module _ (run : Run) (bound : ℕ) (within : run.conditions.limit ≤ bound) whe
     Q = natural.AllNumbered rel leaves token_leaves (respects conditions bound (IsInTable table) file_depth import_offsets) attribute_leaves token_attributes (IsKept conditions bound (IsInTable table) file_depth import_offsets) (attributed conditions bound (IsInTable table) file_depth import_offsets) n
 
     abbrev Short : Counters → Found → Type 0
-    Short = natural.NoFile rel leaves token_leaves (respects conditions bound (IsInTable table) file_depth import_offsets) attribute_leaves token_attributes (IsKept conditions bound (IsInTable table) file_depth import_offsets) (attributed conditions bound (IsInTable table) file_depth import_offsets) n (files.after_mark token_leaves token_attributes (start_state others tokens))
+    Short = natural.NoFile rel leaves token_leaves (respects conditions bound (IsInTable table) file_depth import_offsets) attribute_leaves token_attributes (IsKept conditions bound (IsInTable table) file_depth import_offsets) (attributed conditions bound (IsInTable table) file_depth import_offsets) n (files.after_byte_order_mark token_leaves token_attributes (start_state others tokens))
 
     related : Related rel Q Short (reader.file n begin) there
     related = natural.file_natural rel leaves token_leaves (respects conditions bound (IsInTable table) file_depth import_offsets) attribute_leaves token_attributes (IsKept conditions bound (IsInTable table) file_depth import_offsets) (attributed conditions bound (IsInTable table) file_depth import_offsets) n begin (start_state others tokens) begin_alike
@@ -185,7 +185,7 @@ module _ (run : Run) (bound : ℕ) (within : run.conditions.limit ≤ bound) whe
     pub data Lost (e : table_reader.ReadError) (found' : Found) : Type 0 where
       refused : (e' : model.ReadError) → found' ≡ Err e' → ReadErrors rel e e' → Lost e found'
       wanting : (m : Counters) → e ≡ NoNumber m → Short m found' → Lost e found'
-      deeper : (at : Option TableEntry) → e ≡ reading.TooDeep at → conditions.limit < bound → Lost e found'
+      deeper : (at : Option TableToken) → e ≡ reading.TooDeep at → conditions.limit < bound → Lost e found'
 
     lost : (found : ReadItems) (found' : Found) → Related rel Q Short found found' → (e : table_reader.ReadError) → found ≡ Err e → Lost e found'
     lost found found' (a.both {x = z} q k) e is = absurd (never z e is)
@@ -244,7 +244,7 @@ module _ (run : Run) (bound : ℕ) (within : run.conditions.limit ≤ bound) whe
 
   -- ---- a file that is refused
 
-  place_at : {o : Option TableEntry} {o' : Option SignificantToken} → AlikeNext rel o o' → (token : Token) → IsNextPlace table o token → IsAt tokens o' token × IsInTable table token
+  place_at : {o : Option TableToken} {o' : Option SignificantToken} → AlikeNext rel o o' → (token : Token) → IsNextPlace table o token → IsAt tokens o' token × IsInTable table token
   place_at a.no_next token is = (is.1, is.0)
   place_at (a.a_next {t = e} h) token is = (ap tok_of is ∙ ap (λ (t : SignificantToken). t.tok) h.is, subst (IsInTable table) (sym is) h.among)
 
@@ -378,7 +378,7 @@ module _ (run : Run) (bound : ℕ) (within : run.conditions.limit ≤ bound) whe
   lines_of (natural.later is wants) = let x = lines_of wants in record { left = x.left; counters = x.counters; lines = a_line is x.lines; lacks = x.lacks }
 
   module _ (old new : Numerator) where
-    wants_of : natural.Wants rel leaves token_leaves agree attribute_leaves token_attributes Keeps keeps (counters_of old) (files.after_mark token_leaves token_attributes (start_state others tokens)) (counters_of new) → WantsNumber others tokens old new
+    wants_of : natural.Wants rel leaves token_leaves agree attribute_leaves token_attributes Keeps keeps (counters_of old) (files.after_byte_order_mark token_leaves token_attributes (start_state others tokens)) (counters_of new) → WantsNumber others tokens old new
     wants_of wants = let x = lines_of wants in record { left = x.left; counters = x.counters; lines = x.lines; lacks = lacks_of x.left x.lacks }
 
     whole_of : (found : Found (counters_of old)) (t : WrittenTree) (fs : List (Noted Tok)) → whole found ≡ Ok (t, fs) → (y : (WrittenTree × Counters) × model.State) × (found ≡ Ok y) × (y.0.0 ≡ t)
@@ -419,7 +419,7 @@ module _ (run : Run) (bound : ℕ) (within : run.conditions.limit ≤ bound) whe
     never_of exceeds t fs is enough =
         let n = counters_of old in
         let x = whole_of (there n) t fs (file_by n others tokens ∙ is) in
-        let counts = known x.0 (λ (y : (WrittenTree × Counters) × model.State). y.0.1 ≡ counted n y.0.0) x.1 (items_count token_leaves token_attributes n (files.after_mark token_leaves token_attributes (start_state others tokens))) in
+        let counts = known x.0 (λ (y : (WrittenTree × Counters) × model.State). y.0.1 ≡ counted n y.0.0) x.1 (items_count token_leaves token_attributes n (files.after_byte_order_mark token_leaves token_attributes (start_state others tokens))) in
         let over = known x.0 (λ (y : (WrittenTree × Counters) × model.State). natural.Exceeds rel leaves token_leaves agree attribute_leaves token_attributes Keeps keeps (counters_of new) y.0.1) x.1 exceeds in
         exceeded x.0 t x.2 counts over enough
 
@@ -429,7 +429,7 @@ module _ (run : Run) (bound : ℕ) (within : run.conditions.limit ≤ bound) whe
     no_refusal : (e' : model.ReadError) → ReadErrors rel (NoNumber (counters_of new)) e' → ⊥
     no_refusal e' h = elim h [ ]
 
-    too_deep : (at : Option TableEntry) → ◌≡◌ {A = table_reader.ReadError} (NoNumber (counters_of new)) (reading.TooDeep at) → ⊥
+    too_deep : (at : Option TableToken) → ◌≡◌ {A = table_reader.ReadError} (NoNumber (counters_of new)) (reading.TooDeep at) → ⊥
     too_deep at e = cc
 
     wanting_of : Lost (counters_of old) (NoNumber (counters_of new)) (there (counters_of old)) → Short (counters_of old) (counters_of new) (there (counters_of old))

@@ -16,7 +16,7 @@ use Rattle.justfile_model.specs.Trees.Tree.{Parts, itself}
 use Rattle.justfile_parse_expression.specs.FormatStrings.{AreEnded, IsEnded, IsEndedPastExpression, last_of}
 use Rattle.justfile_parse_file.specs.Parsing.{IsOneLex}
 use Rattle.justfile_parse_expression.specs.Significant.{significant_of}
-use Rattle.justfile_parse_expression.specs.Significant.{TableEntry}
+use Rattle.justfile_parse_expression.specs.Significant.{TableToken}
 use Rattle.justfile_parse_file.proofs.Parsed.{framed_test}
 
 parts_ended : {k : StringKind} {d : ℕ} {ps : Parts Tok Tok} {fs : List (Noted Tok)} {ts rest : Tokens} → grammar.FormatParts itself itself AnyDepth d ps fs ts rest → InFormat k ts → IsTrue (is_part k string_parts.End (last_of ps).lexeme)
@@ -34,5 +34,5 @@ unfolding AreEnded IsEndedPastExpression IsEnded
 inside_ended ts h before start following is kind depth e fs rest x ps gs end parts =
     parts_ended parts (expression_inside itself itself AnyDepth x (start_inside before start following (subst AreInFormat is h) kind))
 
-pub ended_lex : (tokens : List Token) (table : List TableEntry) → IsOneLex tokens → map significant_of table ≡ significant_tokens (map tok_of tokens) → AreEnded (map significant_of table)
+pub ended_lex : (tokens : List Token) (table : List TableToken) → IsOneLex tokens → map significant_of table ≡ significant_tokens (map tok_of tokens) → AreEnded (map significant_of table)
 ended_lex tokens table l is = subst AreEnded (sym is) (inside_ended (significant_tokens (map tok_of tokens)) (lexed_inside l.text (map tok_of tokens) l.utf8 l.lexed))

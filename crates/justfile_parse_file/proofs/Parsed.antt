@@ -71,7 +71,7 @@ use Rattle.justfile_parse_expression.specs.Literal.{is_delimited, is_sound}
 use Rattle.justfile_parse_file.specs.Parsing.{HasNoTree, IsOneLex, IsParsed, IsParsedText, IsUnparsed}
 use Rattle.justfile_parse_file.specs.MethodResults.{IsReadFile, IsUnread}
 use Rattle.justfile_parse_expression.specs.Significant.{significant_of}
-use Rattle.justfile_parse_expression.specs.Significant.{TableEntry}
+use Rattle.justfile_parse_expression.specs.Significant.{TableToken}
 use Rattle.justfile_model.specs.Meanings.UnstableFeatures.{unstable_features}
 use Rattle.justfile_parse_file.specs.WantsNumber.{WantsNumber}
 use Rattle.justfile_parse_file.proofs.Comments.{AreComments, lexed_comments}
@@ -101,7 +101,7 @@ some_significant glued (t ∷ ts) last h = longer (is_whitespace t.kind) (record
 in_front : (text : List ℕ) (ts : List Tok) (l : Lexed text ts) → ts ≡ reverse l.earlier ++ (l.last ∷ [])
 in_front text ts l = sym (reverse-reverse ts) ∙ ap reverse l.are ∙ reverse-append (l.last ∷ []) l.earlier
 
-pub nonempty : (text : List ℕ) (ts : List Tok) (table : List TableEntry) → Lexed text ts → map significant_of table ≡ significant_tokens ts → 0 < length table
+pub nonempty : (text : List ℕ) (ts : List Tok) (table : List TableToken) → Lexed text ts → map significant_of table ≡ significant_tokens ts → 0 < length table
 nonempty text ts table l is =
     let n : 0 < length (significant_from false (reverse l.earlier ++ l.last ∷ [])) = some_significant false (reverse l.earlier) l.last l.is_end in
     omega (arith, n, ap (λ (us : List Tok). length (significant_from false us)) (in_front text ts l), ap length is, length-map table significant_of)
@@ -130,13 +130,13 @@ both : (a b : Bool) → a ≡ true → b ≡ true → (a && b) ≡ true
 both true b h k = k
 both false b h k = cc
 
-sound_table : (table : List TableEntry) → AreQuoted (map significant_of table) → AreFramed (map significant_of table) → AreComments (map significant_of table)
+sound_table : (table : List TableToken) → AreQuoted (map significant_of table) → AreFramed (map significant_of table) → AreComments (map significant_of table)
     → list_all is_sound table ≡ true
 sound_table [] h k c = refl
-sound_table (entry ∷ table) h k c =
-    both (is_sound entry) (list_all is_sound table) (delimited entry.0.kind (lexeme_of entry.0) h.0 h.1 k.0 k.1 c.0) (sound_table table h.2 k.3 c.1)
+sound_table (table_token ∷ table) h k c =
+    both (is_sound table_token) (list_all is_sound table) (delimited table_token.0.kind (lexeme_of table_token.0) h.0 h.1 k.0 k.1 c.0) (sound_table table h.2 k.3 c.1)
 
-pub sound_lex : (tokens : List Token) (table : List TableEntry) → IsOneLex tokens → map significant_of table ≡ significant_tokens (map tok_of tokens) → IsTrue (list_all is_sound table)
+pub sound_lex : (tokens : List Token) (table : List TableToken) → IsOneLex tokens → map significant_of table ≡ significant_tokens (map tok_of tokens) → IsTrue (list_all is_sound table)
 sound_lex tokens table l is =
     let ts = map tok_of tokens in
     let e : list_all is_sound table ≡ true
@@ -146,8 +146,8 @@ sound_lex tokens table l is =
 
 -- ---- what was given
 
-pub in_tokens : (tokens : List Token) (table : List TableEntry) → All (λ entry. Contains tokens entry.0) table → (t : Token) → IsInTable table t → Contains tokens t
-in_tokens tokens table all t h = All-contains (λ (entry : TableEntry). Contains tokens entry.0) table (t, h.glued) all h.among
+pub in_tokens : (tokens : List Token) (table : List TableToken) → All (λ table_token. Contains tokens table_token.0) table → (t : Token) → IsInTable table t → Contains tokens t
+in_tokens tokens table all t h = All-contains (λ (table_token : TableToken). Contains tokens table_token.0) table (t, h.glued) all h.among
 
 module _ (expander : Expansions) (P Q : Token → Type 0) (weaker : (t : Token) → P t → Q t) where
   mutual
@@ -420,7 +420,7 @@ cooks_of expander P file_depth import_offsets (i ∷ items) all =
 
 -- ---- what is read derives
 
-pub given_tokens : (expander : Expansions) (tokens : List Token) (table : List TableEntry) (file_depth : ℕ) (import_offsets : List ℕ) (items : List Item) → All (λ entry. Contains tokens entry.0) table → All (IsFilledItem expander (IsInTable table) file_depth import_offsets) items
+pub given_tokens : (expander : Expansions) (tokens : List Token) (table : List TableToken) (file_depth : ℕ) (import_offsets : List ℕ) (items : List Item) → All (λ table_token. Contains tokens table_token.0) table → All (IsFilledItem expander (IsInTable table) file_depth import_offsets) items
     → All (IsFilledItem expander (Contains tokens) file_depth import_offsets) items
 given_tokens expander tokens table file_depth import_offsets items all =
     All-weaker (IsFilledItem expander (IsInTable table) file_depth import_offsets) (IsFilledItem expander (Contains tokens) file_depth import_offsets)
@@ -435,7 +435,7 @@ read_derives conditions tokens written tree features read meaning =
     let same : x.0 ≡ tree = cc in
     subst (λ (t : Tree). FileDerives conditions tokens t features) same x.2
 
-module _ (conditions : Conditions) (tokens : List Token) (table : List TableEntry) (old new : Numerator) (is : map significant_of table ≡ significant_tokens (map tok_of tokens)) where
+module _ (conditions : Conditions) (tokens : List Token) (table : List TableToken) (old new : Numerator) (is : map significant_of table ≡ significant_tokens (map tok_of tokens)) where
   -- the tokens of a lex are those of its table
   abbrev Derives : Tree → List (Noted Tok) → Type 0
   Derives tree features = FileDerives conditions (significant_tokens (map tok_of tokens)) tree features
@@ -456,7 +456,7 @@ module _ (conditions : Conditions) (tokens : List Token) (table : List TableEntr
   derives_of written tree features h meaning =
       read_derives conditions (significant_tokens (map tok_of tokens)) written tree features (sym (ap (model.tree_of_tokens conditions) is) ∙ h) meaning
 
-  pub unparsed_of : All (λ entry. Contains tokens entry.0) table → (fault : Fault)
+  pub unparsed_of : All (λ table_token. Contains tokens table_token.0) table → (fault : Fault)
       → IsUnread conditions (map significant_of table) (IsInTable table) old new fault
       → IsUnparsed conditions (map tok_of tokens) (Contains tokens) old new fault
   unparsed_of all (faults.Compile e) h =
@@ -508,7 +508,7 @@ module _ (conditions : Conditions) (tokens : List Token) (table : List TableEntr
           under conditions.limit (omega arith) tree features
           (raised (with_limit limit conditions) (significant_tokens (map tok_of tokens)) conditions.limit (omega (arith, more)) tree features d) enough
 
-  pub parsed_of : All (λ entry. Contains tokens entry.0) table → (source : Source) (ast : Ast) → IsReadFile conditions table source old new ast
+  pub parsed_of : All (λ table_token. Contains tokens table_token.0) table → (source : Source) (ast : Ast) → IsReadFile conditions table source old new ast
       → IsParsed conditions (map tok_of tokens) (Contains tokens) source.file_depth source.import_offsets.now old new ast
   parsed_of all source ast file =
       let h = file.read in
@@ -527,13 +527,13 @@ module _ (conditions : Conditions) (tokens : List Token) (table : List TableEntr
       }
 
   -- the same of a result
-  pub parsed_if : All (λ entry. Contains tokens entry.0) table → (source : Source) (result : Result Ast Fault) → IfOk result (IsReadFile conditions table source old new)
+  pub parsed_if : All (λ table_token. Contains tokens table_token.0) table → (source : Source) (result : Result Ast Fault) → IfOk result (IsReadFile conditions table source old new)
       → IfOk result (IsParsed conditions (map tok_of tokens) (Contains tokens) source.file_depth source.import_offsets.now old new)
   parsed_if all source (Ok ast) h = parsed_of all source ast h
   parsed_if all source (Err fault) h = tt
 
 -- what was passed
-module _ (conditions : Conditions) (table : List TableEntry) (source : Source) (old new : Numerator) where
+module _ (conditions : Conditions) (table : List TableToken) (source : Source) (old new : Numerator) where
   pub module_path_of : (result : Result Ast Fault) → IfOk result (IsReadFile conditions table source old new) → IfOk result (λ ast. names_of ast.module_path ≡ module_names source.namepath)
   module_path_of (Ok ast) h = h.module_path
   module_path_of (Err fault) h = tt

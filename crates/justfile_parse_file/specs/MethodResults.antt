@@ -29,7 +29,7 @@ use Rattle.justfile_parse_file.specs.Errors.{IsAt, IsErrorOf, IsUnexpected}
 use Rattle.justfile_parse_item.specs.Filled.{AreNotedIn, IsFilledItems, IsInTable}
 use Rattle.justfile_parse_expression.specs.Significant.{significant_of}
 use Rattle.justfile_parse_file.specs.WantsNumber.{WantsNumber}
-use Rattle.justfile_parse_expression.specs.Significant.{TableEntry}
+use Rattle.justfile_parse_expression.specs.Significant.{TableToken}
 use Rattle.justfile_parse_expression.specs.TableReader.{Run}
 use Rattle.justfile_parse_expression.specs.declared.expression_error.SyntaxError.{SyntaxError}
 use Rattle.justfile_parse_expression.specs.declared.expression_error.SyntaxError.TheVariants.{Unexpected, TooDeep}
@@ -46,12 +46,12 @@ abbrev pub IsErrorAt : SyntaxError → Token → CompileError → Type 0
 IsErrorAt refusal token error = IsKindAt refusal error.kind error.token × (error.token ≡ token)
 
 -- The token is the next one, or the last of the table if none is left.
-abbrev pub IsNextPlace : List TableEntry → (next : Option TableEntry) → Token → Type 0
-IsNextPlace table (Some entry) token = token ≡ entry.0
+abbrev pub IsNextPlace : List TableToken → (next : Option TableToken) → Token → Type 0
+IsNextPlace table (Some table_token) token = token ≡ table_token.0
 IsNextPlace table None token = IsInTable table token × IsAt (map significant_of table) None token
 
 -- The fault is that of the expression error: at the next token, or for a literal. Memory can run out for the list of expected tokens.
-abbrev pub IsFaultOfExpression : List TableEntry → (next : Option TableEntry) → ExpressionError → Fault → Type 0
+abbrev pub IsFaultOfExpression : List TableToken → (next : Option TableToken) → ExpressionError → Fault → Type 0
 IsFaultOfExpression table next (causes.Refused refusal) (faults.Compile e) = IsKindAt refusal e.kind e.token × IsNextPlace table next e.token
 IsFaultOfExpression table next (causes.Refused refusal) faults.Memory = refusal ≡ Unexpected
 IsFaultOfExpression table next (causes.Literal refused) (faults.Compile e) = e ≡ refused.value.error
@@ -60,7 +60,7 @@ IsFaultOfExpression table next causes.Numbers faults.Numbers = Unit {0}
 IsFaultOfExpression table next _ _ = ⊥
 
 -- what stays the same while a file with this source is read
-abbrev pub run_from : Conditions → List TableEntry → Source → Run
+abbrev pub run_from : Conditions → List TableToken → Source → Run
 run_from conditions table source = record { conditions = conditions; table = table; file_depth = source.file_depth; import_offsets = source.import_offsets.now }
 
 -- The items are those of the written tree that the definitions read, the features are the ones that they read, and the numerator gave the
@@ -74,7 +74,7 @@ pub record IsRead (run : Run) (old new : Numerator) (x : List Item × List (List
 
 -- The items and the features of the file were read. Its unstable features are those of its tree, and its module and its folder are those of
 -- its source.
-pub record IsReadFile (conditions : Conditions) (table : List TableEntry) (source : Source) (old new : Numerator) (ast : Ast) : Type 0 where
+pub record IsReadFile (conditions : Conditions) (table : List TableToken) (source : Source) (old new : Numerator) (ast : Ast) : Type 0 where
   pub read : IsRead (run_from conditions table source) old new (ast.items.items, ast.list_features.items)
   pub unstable : ast.unstable_features.keys ≡ unstable_features (tree_of ast)
   pub module_path : names_of ast.module_path ≡ module_names source.namepath

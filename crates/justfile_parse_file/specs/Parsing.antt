@@ -79,7 +79,7 @@ pub record IsParsedText (conditions : Conditions) (path src : List ℕ) (file_de
   pub filled : IsFilled conditions.expander (IsFrom path src) file_depth import_offsets old new ast
 
 -- The text has tokens, and the error is the one for which they are refused.
-pub record IsTextRefused (conditions : Conditions) (src : List ℕ) (e : CompileError) : Type 0 where
+pub record IsTextRejected (conditions : Conditions) (src : List ℕ) (e : CompileError) : Type 0 where
   pub tokens : List Tok
   pub lexed : Lexed src tokens
   pub refused : IsRefused conditions (significant_tokens tokens) e
@@ -92,7 +92,7 @@ pub record IsTreeless (conditions : Conditions) (path src : List ℕ) (old new :
   pub from : IsFrom path src e.token
   pub held : All (IsFrom path src) (tokens_in e.kind)
   pub not_internal : internal_message e.kind ≡ None
-  pub cause : (IsLexicalError path src e × (new ≡ old)) ⊎ IsTextRefused conditions src e
+  pub cause : (IsLexicalError path src e × (new ≡ old)) ⊎ IsTextRejected conditions src e
   pub deep : (limit : ℕ) (tree : Tree) (features : List (Noted Tok)) (d : TextDerives (with_limit limit conditions) src tree features)
       → IsTooDeepError conditions (significant_tokens d.tokens) d.file.written e
 

@@ -9,7 +9,7 @@ use Rattle.justfile_model.specs.Readers.HeaderReader as headers
 use Rattle.justfile_model.specs.Readers.PartReader as parts
 use Rattle.justfile_model.specs.Meanings.ReadAttribute.{ReadAttribute, token_view}
 use Rattle.justfile_model.specs.Readers.Reader as files
-use Rattle.justfile_model.specs.Readers.Reader.{after_mark, any_recipe, argument_rules, assignment, line, with_recipes}
+use Rattle.justfile_model.specs.Readers.Reader.{after_byte_order_mark, any_recipe, argument_rules, assignment, line, with_recipes}
 use Rattle.justfile_model.specs.Readers.ReaderState as reading
 use Rattle.justfile_model.specs.Readers.ReaderState.{Counters}
 use Rattle.justfile_model.specs.Lexing.SignificantTokens.{SignificantToken}
@@ -182,4 +182,4 @@ pub record LinesWantNumber (s : State) (old new : Numerator) : Type 0 where
 
 -- A number is needed in a file's tokens, and its counter, which counted up from the old numerator to the new, has reached its maximum.
 abbrev pub WantsNumber : Conditions → List SignificantToken → (old new : Numerator) → Type 0
-WantsNumber conditions tokens old new = LinesWantNumber (after_mark token_leaves token_attributes (start_state conditions tokens)) old new
+WantsNumber conditions tokens old new = LinesWantNumber (after_byte_order_mark token_leaves token_attributes (start_state conditions tokens)) old new

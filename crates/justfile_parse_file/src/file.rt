@@ -10,7 +10,7 @@ ghost use Rattle.justfile_parse_expression.specs.Conditions.{conditions_of};
 ghost use Rattle.justfile_parse_expression.specs.FormatStrings.{IsTable};
 ghost use Rattle.justfile_parse_item.specs.Filled.{IsInTable};
 ghost use Rattle.justfile_parse_item.specs.ItemTable as reader;
-ghost use Rattle.justfile_parse_item.specs.ItemTable.{after_mark};
+ghost use Rattle.justfile_parse_item.specs.ItemTable.{after_byte_order_mark};
 ghost use Rattle.justfile_parse_file.specs.MethodResults.{IsErrorAt, IsFaultOfExpression, IsNextPlace, IsRead, IsReadFile, IsUnread, run_from};
 ghost use Rattle.justfile_parse_item.specs.MethodResults.{CountersMoved};
 ghost use Rattle.justfile_parse_file.specs.ErrorFaults.{IsFaultOfError};
@@ -230,7 +230,7 @@ fn parse_file<'src, X: Expander>(
 
 /// Takes the byte order mark that a file may begin with.
 fn accept_byte_order_mark<X: Expander>(parser: &mut ParserState<'_, '_, X>)
-    ensures { state_of X.answer parser.new ≡ after_mark (state_of X.answer parser.old) }
+    ensures { state_of X.answer parser.new ≡ after_byte_order_mark (state_of X.answer parser.old) }
 {
     let _mark = parser.accept(TokenKind::ByteOrderMark);
 }

@@ -12,7 +12,7 @@ use Rattle.justfile_model.proofs.Lists.Prepended.{after_nothing}
 use Rattle.justfile_parse_base.specs.ParseErrors.{IsParseError}
 use Rattle.justfile_parse_base.specs.declared.parse_error.ParseError.{ParseError}
 use Rattle.justfile_parse_expression.specs.TableReader.{Read, ReadError, State, accept, expect, leaves}
-use Rattle.justfile_parse_expression.specs.Significant.{TableEntry}
+use Rattle.justfile_parse_expression.specs.Significant.{TableToken}
 use Rattle.justfile_parse_header.specs.HeaderTable.{LeafDependency, StarredArgument, begins_dependency, dependencies, dependency, dependency_argument, dependency_arguments, misplaced_star, parenthesized, subsequents}
 use Rattle.justfile_parse_base.specs.SharedTable.{path}
 use Rattle.justfile_parse_header.specs.Tree.{argument_tree, dependency_tree, read_argument}
@@ -49,7 +49,7 @@ module _ (old done : List UnresolvedDependency) (s q : State) (so_far : prepend 
 
 module _ (done : List ReadArgument) (s q : State) (so_far : dependency_arguments (map read_argument done, q) ≡ dependency_arguments ([], s)) where
   -- the closing parenthesis is taken
-  pub arguments_end : (closer : TableEntry) (rest : State) → accept kinds.ParenR q ≡ Some (closer, rest) → dependency_arguments ([], s) ≡ Ok (map read_argument done, rest)
+  pub arguments_end : (closer : TableToken) (rest : State) → accept kinds.ParenR q ≡ Some (closer, rest) → dependency_arguments ([], s) ≡ Ok (map read_argument done, rest)
   arguments_end closer rest h = sym so_far ∙ laws.dependency_arguments_end leaves (map read_argument done, q) closer rest h
 
   module _ (none : accept kinds.ParenR q ≡ None) where
@@ -76,7 +76,7 @@ module _ (old : List UnresolvedDependency) (s : State) where
   unfolding headers.subsequents
   subsequents_none h = rw h (after_nothing (map dependency_tree old) s)
 
-  module _ (operator : TableEntry) (next : State) (taken : accept kinds.AmpersandAmpersand s ≡ Some (operator, next)) where
+  module _ (operator : TableToken) (next : State) (taken : accept kinds.AmpersandAmpersand s ≡ Some (operator, next)) where
     abbrev some_of : Read (List LeafDependency) → Read (List LeafDependency)
     some_of found = prepend (map dependency_tree old) (found >>= headers.some_dependency leaves)
 
@@ -132,7 +132,7 @@ module _ (old : List UnresolvedDependency) (s : State) where
 
 -- ---- a dependency in parentheses
 
-pub parenthesized_read : (star : Option TableEntry) (s : State) (opener : TableEntry) (inside : State) (d : UnresolvedDependency) (after : State)
+pub parenthesized_read : (star : Option TableToken) (s : State) (opener : TableToken) (inside : State) (d : UnresolvedDependency) (after : State)
     (arguments : List ReadArgument) (rest : State)
     → expect kinds.ParenL s ≡ Ok (opener, inside) → path inside ≡ Ok (path_tree d.recipe, after) → dependency_arguments ([], after) ≡ Ok (map read_argument arguments, rest)
     → obeying (misplaced_star star (map read_argument arguments)) rest ≡ Ok (tt, rest)
@@ -144,7 +144,7 @@ parenthesized_read star s opener inside d after arguments rest opened named read
     rw (opened, named, read, checked) (λ i. Ok (record { star = sym starred i; path = path_tree d.recipe; arguments = sym kept i }, rest))
 
 -- its stars are not where they may be
-pub stars_fail : (star : Option TableEntry) (s : State) (opener : TableEntry) (inside : State) (names : List Leaf) (after : State)
+pub stars_fail : (star : Option TableToken) (s : State) (opener : TableToken) (inside : State) (names : List Leaf) (after : State)
     (arguments : List ReadArgument) (rest : State) (error : ParseError)
     → expect kinds.ParenL s ≡ Ok (opener, inside) → path inside ≡ Ok (names, after) → dependency_arguments ([], after) ≡ Ok (map read_argument arguments, rest)
     → IsParseError error rest ⊥ (obeying (misplaced_star star (map read_argument arguments)) rest) → IsParseError error rest ⊥ (parenthesized star s)

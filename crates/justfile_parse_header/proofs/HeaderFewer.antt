@@ -11,7 +11,7 @@ use Rattle.justfile_model.specs.declared.level.Level.TheVariants as levels
 use Rattle.justfile_model.proofs.Readers.ReadingSteps.{after_test}
 use Rattle.justfile_model.proofs.Lists.Turns.{recursive_keeps}
 use Rattle.justfile_parse_expression.specs.TableReader.{At, Read, State, expect, leaves, next_are, read, value}
-use Rattle.justfile_parse_expression.specs.Significant.{TableEntry}
+use Rattle.justfile_parse_expression.specs.Significant.{TableToken}
 use Rattle.justfile_parse_base.specs.Counting.{identifiers_left}
 use Rattle.justfile_parse_header.specs.HeaderTable as reader
 use Rattle.justfile_parse_header.specs.HeaderTable.{LeafDependency, StarredArgument}
@@ -45,7 +45,7 @@ path_rest_rule_fewer : (f : State → Read Names) → ((s : State) → Fewer s (
 unfolding headers.path_rest_rule
 path_rest_rule_fewer f h s =
     either_fewer {A = Names} kinds.ColonColon s _ _ (omega arith)
-    (λ colons. then_fewer {A = TableEntry} {B = Names} colons.1 (expect kinds.Identifier colons.1) _ (expect_fewer kinds.Identifier colons.1)
+    (λ colons. then_fewer {A = TableToken} {B = Names} colons.1 (expect kinds.Identifier colons.1) _ (expect_fewer kinds.Identifier colons.1)
     (λ name. after_fewer (leaves.name name.0 ∷ []) name.1 (f name.1) (h name.1)))
 
 path_rest_fewer : (s : State) → Fewer {A = Names} s (reader.path_rest s)
@@ -56,7 +56,7 @@ path_rest_fewer =
 path_fewer : (s : State) → Fewer {A = Names} s (reader.path s)
 unfolding headers.path
 path_fewer s =
-    then_fewer {A = TableEntry} {B = Names} s (expect kinds.Identifier s) _ (expect_fewer kinds.Identifier s)
+    then_fewer {A = TableToken} {B = Names} s (expect kinds.Identifier s) _ (expect_fewer kinds.Identifier s)
     (λ first. after_fewer (leaves.name first.0 ∷ []) first.1 (reader.path_rest first.1) (path_rest_fewer first.1))
 
 -- ---- dependencies
@@ -66,7 +66,7 @@ unfolding headers.plain_argument
 plain_fewer s =
     then_fewer {A = Expr Leaf Token} {B = StarredArgument} s (read (At levels.Expression false s)) _ (expression_fewer s) (λ e. omega arith)
 
-starred_fewer : (before : Arguments) (star : TableEntry) (s : State) → Fewer {A = StarredArgument} s (reader.starred_argument before star s)
+starred_fewer : (before : Arguments) (star : TableToken) (s : State) → Fewer {A = StarredArgument} s (reader.starred_argument before star s)
 unfolding headers.starred_argument
 starred_fewer before star s =
     then_fewer {A = Unit {0}} {B = StarredArgument} s (obeying (reader.second_star before star) s) _ (obeying_fewer (reader.second_star before star) s)
@@ -92,10 +92,10 @@ arguments_fewer =
     recursive_keeps (λ (x : Place). length x.1.left) (headers.no_dependency_arguments leaves) (headers.dependency_arguments_rule leaves) (λ x found. Fewer x.1 found)
     (λ x. tt) arguments_rule_fewer
 
-parenthesized_fewer : (star : Option TableEntry) (s : State) → Fewer {A = LeafDependency} s (reader.parenthesized star s)
+parenthesized_fewer : (star : Option TableToken) (s : State) → Fewer {A = LeafDependency} s (reader.parenthesized star s)
 unfolding headers.parenthesized
 parenthesized_fewer star s =
-    then_fewer {A = TableEntry} {B = LeafDependency} s (expect kinds.ParenL s) _ (expect_fewer kinds.ParenL s) (λ opener.
+    then_fewer {A = TableToken} {B = LeafDependency} s (expect kinds.ParenL s) _ (expect_fewer kinds.ParenL s) (λ opener.
     then_fewer {A = Names} {B = LeafDependency} opener.1 (reader.path opener.1) _ (path_fewer opener.1) (λ path.
     then_fewer {A = Arguments} {B = LeafDependency} path.1 (reader.dependency_arguments ([], path.1)) _ (arguments_fewer ([], path.1)) (λ arguments.
     then_fewer {A = Unit {0}} {B = LeafDependency} arguments.1 (obeying (reader.misplaced_star star arguments.0) arguments.1) _

@@ -11,7 +11,7 @@ use Rattle.justfile_model.specs.Readers.HeaderReader as headers
 use Rattle.justfile_model.specs.Readers.HeaderReader.{obeying}
 use Rattle.justfile_model.specs.Readers.ReaderState.{Counters, prepend, with}
 use Rattle.justfile_parse_expression.specs.TableReader.{Read, ReadError, State, expect, leaves}
-use Rattle.justfile_parse_expression.specs.Significant.{TableEntry}
+use Rattle.justfile_parse_expression.specs.Significant.{TableToken}
 use Rattle.justfile_parse_header.specs.HeaderTable as reader
 use Rattle.justfile_parse_header.specs.HeaderTable.{LeafDependency, LeafParameter, LeafHeader, Rules}
 use Rattle.justfile_parse_header.specs.Tree.{dependency_tree}
@@ -23,7 +23,7 @@ Dependencies = List LeafDependency
 abbrev pub ruled : List Rules → State → State
 ruled rules s = with (flat_map rules_features rules) s
 
-abbrev pub parts : TableEntry → List LeafParameter → (priors subsequents : Dependencies) → LeafHeader
+abbrev pub parts : TableToken → List LeafParameter → (priors subsequents : Dependencies) → LeafHeader
 parts name ps priors others = record { name = name; parameters = ps; priors = priors; subsequents = others }
 
 -- what is refused after others is refused
@@ -78,7 +78,7 @@ module _ (rules : List Rules) (n : Counters) (s : State) where
   unfolding headers.header
   name_fails e h = rw h refl
 
-  module _ {name : TableEntry} {s1 : State} (named : expect kinds.Identifier s ≡ Ok (name, s1)) where
+  module _ {name : TableToken} {s1 : State} (named : expect kinds.Identifier s ≡ Ok (name, s1)) where
     pub options_fail : (e : ReadError) → obeying (reader.same_options name.0 rules) (ruled rules s1) ≡ Err e → reader.header rules n s ≡ Err e
     unfolding headers.header headers.distinct_options leaves
     options_fail e h = rw (named, h) refl

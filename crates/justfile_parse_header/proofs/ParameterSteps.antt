@@ -12,7 +12,7 @@ use Rattle.justfile_parse_base.specs.ParseErrors.{ReadsRuled}
 use Rattle.justfile_parse_base.specs.declared.parse_error.ParseError.{ParseError}
 use Rattle.justfile_parse_base.specs.declared.parse_error.ParseError.TheVariants.{Expression}
 use Rattle.justfile_parse_expression.specs.MethodResults.{IsExpressionError}
-use Rattle.justfile_parse_expression.specs.Significant.{TableEntry}
+use Rattle.justfile_parse_expression.specs.Significant.{TableToken}
 use Rattle.justfile_parse_expression.specs.TableReader.{Read, ReadError, State, accept, expect}
 use Rattle.justfile_parse_expression.specs.declared.expression_error.ExpressionError.{ExpressionError}
 use Rattle.justfile_parse_base.specs.Counting.{TookBindingNumbers, counters_of, identifiers_left, identifiers_left_after}
@@ -27,7 +27,7 @@ use Rattle.justfile_parse_header.proofs.Parameters.{both_fields, same_fields}
 
 -- after a token that was taken
 pub after_token : {X : Type 0} (rules : List Rules) (parameters : X → List Parameter) (result : Result X ParseError) (before : List Parameter) (old new : Numerator) (kind : TokenKind)
-    (s : State) (x : TableEntry × State) (last : State) (all rest : ParameterReader) → accept kind s ≡ Some x
+    (s : State) (x : TableToken × State) (last : State) (all rest : ParameterReader) → accept kind s ≡ Some x
     → all rules ((map parameter_tree before, counters_of old), s) ≡ rest rules ((map parameter_tree before, counters_of old), x.1)
     → ReadsParameters rules parameters result before old new x.1 last rest → ReadsParameters rules parameters result before old new s last all
 after_token rules parameters result before old new kind s x last all rest taken same h = record {
@@ -39,12 +39,12 @@ after_token rules parameters result before old new kind s x last all rest taken 
 -- ---- the last one
 
 module _ (rules : List Rules) (x : reader.Parameters) (s : State) where
-  pub plus_next : (plus : TableEntry × State) → accept kinds.Plus s ≡ Some plus → reader.last_parameter rules (x, s) ≡ reader.variadic rules Plus (x, plus.1)
+  pub plus_next : (plus : TableToken × State) → accept kinds.Plus s ≡ Some plus → reader.last_parameter rules (x, s) ≡ reader.variadic rules Plus (x, plus.1)
   unfolding headers.last_parameter
   plus_next plus h = rw h refl
 
   module _ (no_plus : accept kinds.Plus s ≡ None) where
-    pub star_next : (star : TableEntry × State) → accept kinds.Asterisk s ≡ Some star → reader.last_parameter rules (x, s) ≡ reader.variadic rules Star (x, star.1)
+    pub star_next : (star : TableToken × State) → accept kinds.Asterisk s ≡ Some star → reader.last_parameter rules (x, s) ≡ reader.variadic rules Star (x, star.1)
     unfolding headers.last_parameter
     star_next star h = rw (no_plus, h) refl
 
@@ -145,7 +145,7 @@ module _ (rules : List Rules) (first : Numerator) (s : State) where
         numbers = within first then (identifiers_left s) (identifiers_left s2) (identifiers_left s) 0 took (omega arith) (omega arith);
       }
 
-      pub all_read : (x : TableEntry × State) → expect kinds.Colon s2 ≡ Ok x → (parameters : ReadParameters) → parameters.list.items ≡ all → All (Ok parameters) rules first then s x.1
+      pub all_read : (x : TableToken × State) → expect kinds.Colon s2 ≡ Ok x → (parameters : ReadParameters) → parameters.list.items ≡ all → All (Ok parameters) rules first then s x.1
       unfolding headers.parameters
       all_read x h parameters is =
           let P : List Parameter → Type 0 = λ ps. ReadsParameters {X = Unit {0}} rules (λ _. ps) (Ok tt) [] first then s x.1 all_parameters in

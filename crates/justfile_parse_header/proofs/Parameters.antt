@@ -20,7 +20,7 @@ use Rattle.justfile_parse_base.specs.SharedTable.{view_of}
 use Rattle.justfile_parse_base.specs.ParseErrors.{IsParseError}
 use Rattle.justfile_parse_base.specs.declared.parse_error.ParseError.{ParseError}
 use Rattle.justfile_parse_expression.specs.TableReader.{Read, ReadError, State, accept, expect, leaves}
-use Rattle.justfile_parse_expression.specs.Significant.{TableEntry}
+use Rattle.justfile_parse_expression.specs.Significant.{TableToken}
 use Rattle.justfile_parse_base.specs.Counting.{TookBindingNumbers, counters_of, identifiers_left}
 use Rattle.justfile_parse_header.specs.HeaderTable as reader
 use Rattle.justfile_parse_header.specs.HeaderTable.{LeafParameter, Rules}
@@ -119,7 +119,7 @@ named_fields rules before p found token is same its_rules =
 -- ---- exported or not
 
 module _ (rules : List Rules) (kind : ParameterKind) (x : reader.Parameters) (s : State) where
-  pub exported : (dollar : TableEntry) (rest : State) → accept kinds.Dollar s ≡ Some (dollar, rest) → reader.parameter rules kind (x, s) ≡ reader.named_parameter rules kind true x rest
+  pub exported : (dollar : TableToken) (rest : State) → accept kinds.Dollar s ≡ Some (dollar, rest) → reader.parameter rules kind (x, s) ≡ reader.named_parameter rules kind true x rest
   unfolding headers.parameter accepted
   exported dollar rest h = rw h refl
 
@@ -137,7 +137,7 @@ module _ (rules : List Rules) (kind : ParameterKind) (export : Bool) (before : L
   unfolding headers.named_parameter
   name_fails e h = rw h refl
 
-  module _ {name : TableEntry} {s1 : State} (named : expect kinds.Identifier s ≡ Ok (name, s1)) where
+  module _ {name : TableToken} {s1 : State} (named : expect kinds.Identifier s ≡ Ok (name, s1)) where
     pub default_fails : (e : ReadError) → reader.default_value s1 ≡ Err e → Found ≡ Err e
     unfolding headers.named_parameter
     default_fails e h = rw (named, h) refl

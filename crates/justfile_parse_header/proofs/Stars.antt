@@ -23,7 +23,7 @@ use Rattle.justfile_parse_base.specs.ParseErrors.{IsParseError, IsErrorOfFault}
 use Rattle.justfile_parse_base.specs.declared.parse_error.ParseError.{ParseError}
 use Rattle.justfile_parse_base.proofs.RuleSteps.{fails_for}
 use Rattle.justfile_parse_expression.specs.TableReader.{Read, State, leaves}
-use Rattle.justfile_parse_expression.specs.Significant.{TableEntry}
+use Rattle.justfile_parse_expression.specs.Significant.{TableToken}
 use Rattle.justfile_parse_header.specs.HeaderTable.{second_from}
 use Rattle.justfile_parse_header.specs.Tree.{argument_tree, read_argument}
 use Rattle.justfile_parse_header.specs.declared.dependency.ReadArgument.{ReadArgument}
@@ -31,7 +31,7 @@ use Rattle.justfile_expression.specs.LeafTree.{Leaf}
 
 -- ---- one argument after another
 
-abbrev pub first_star : List ReadArgument → Option TableEntry
+abbrev pub first_star : List ReadArgument → Option TableToken
 first_star l = first_of (stars (map read_argument l))
 
 module _ (arguments : List ReadArgument) where
@@ -42,15 +42,15 @@ module _ (arguments : List ReadArgument) where
     pub first_later : a.star ≡ None → first_star (drop (i + 1) arguments) ≡ first_star arguments
     first_later h = sym (here ∙ rw h refl)
 
-    pub first_here : (star : TableEntry) → a.star ≡ Some star → first_star arguments ≡ Some star
+    pub first_here : (star : TableToken) → a.star ≡ Some star → first_star arguments ≡ Some star
     first_here star h = here ∙ rw h refl
 
   pub first_end : (i : ℕ) → first_star (drop i arguments) ≡ first_star arguments → length arguments ≤ i → first_star arguments ≡ None
   first_end i so_far h = sym so_far ∙ ap first_star (drop_all i arguments h)
 
-module _ (before : List ReadArgument) (star : TableEntry) where
+module _ (before : List ReadArgument) (star : TableToken) where
   -- the second star of arguments before this one, where the first was found already or not
-  abbrev pub second_after : (found : Bool) → List ReadArgument → Option TableEntry
+  abbrev pub second_after : (found : Bool) → List ReadArgument → Option TableToken
   second_after found l = second_from found (stars (map read_argument l) ++ star ∷ [])
 
   module _ (found : Bool) (i : ℕ) (a : ReadArgument) (so_far : second_after found (drop i before) ≡ second_after false before) (within : i < length before) (item : a ≡ get_or before i a) where
@@ -60,10 +60,10 @@ module _ (before : List ReadArgument) (star : TableEntry) where
     pub second_later : a.star ≡ None → second_after found (drop (i + 1) before) ≡ second_after false before
     second_later h = sym (at_second ∙ rw h refl)
 
-    pub second_begins : (first : TableEntry) → found ≡ false → a.star ≡ Some first → second_after true (drop (i + 1) before) ≡ second_after false before
+    pub second_begins : (first : TableToken) → found ≡ false → a.star ≡ Some first → second_after true (drop (i + 1) before) ≡ second_after false before
     second_begins first unfound h = sym (at_second ∙ rw (unfound, h) refl)
 
-    pub second_here : (second : TableEntry) → found ≡ true → a.star ≡ Some second → second_after false before ≡ Some second
+    pub second_here : (second : TableToken) → found ≡ true → a.star ≡ Some second → second_after false before ≡ Some second
     second_here second seen h = at_second ∙ rw (seen, h) refl
 
   pub second_end : (found : Bool) (i : ℕ) → second_after found (drop i before) ≡ second_after false before → length before ≤ i → second_after false before ≡ second_from found (star ∷ [])
@@ -71,10 +71,10 @@ module _ (before : List ReadArgument) (star : TableEntry) where
 
 -- ---- a star that is refused
 
-abbrev RefusesStar : Rule Token → TableEntry → Fault → Type 0
+abbrev RefusesStar : Rule Token → TableToken → Fault → Type 0
 RefusesStar rule star fault = IsFaultOfRule rule star.0 fault
 
-module _ (star : TableEntry) (e : CompileError) (at_star : e.token ≡ star.0) where
+module _ (star : TableToken) (e : CompileError) (at_star : e.token ≡ star.0) where
   pub refuses_second : e.kind ≡ errors.MappedDependencyMultipleStarredArguments → RefusesStar MappedDependencyMultipleStarredArguments star (faults.Compile e)
   refuses_second h = record { token = at_star; says = rw h tt }
 
@@ -85,39 +85,39 @@ module _ (star : TableEntry) (e : CompileError) (at_star : e.token ≡ star.0) w
   refuses_outside h = record { token = at_star; says = rw h tt }
 
 module _ (s : State) where
-  abbrev second_checked : List TableEntry → Read (Unit {0})
+  abbrev second_checked : List TableToken → Read (Unit {0})
   second_checked xs = obeying (second_broken (map leaves.position xs)) s
 
-  abbrev pub place_checked : Option TableEntry → List TableEntry → Read (Unit {0})
+  abbrev pub place_checked : Option TableToken → List TableToken → Read (Unit {0})
   place_checked star xs = obeying (misplaced_broken (option_map leaves.position star) (map leaves.position xs)) s
 
   -- no star after another one
-  pub one_star : (xs : List TableEntry) → second_from false xs ≡ None → second_checked xs ≡ Ok (tt, s)
+  pub one_star : (xs : List TableToken) → second_from false xs ≡ None → second_checked xs ≡ Ok (tt, s)
   one_star [] h = refl
   one_star (x ∷ []) h = refl
   one_star (x ∷ y ∷ xs) h = absurd cc
 
   module _ (fault : Fault) (error : ParseError) (for : IsErrorOfFault error fault) where
-    refused_at : (rule : Rule Token) (star first : TableEntry) → Some first ≡ Some star → RefusesStar rule star fault
+    refused_at : (rule : Rule Token) (star first : TableToken) → Some first ≡ Some star → RefusesStar rule star fault
         → IsParseError {Y = Unit {0} × State} error s ⊥ (Err (BreaksRule (record { rule = rule; token = first.0 })))
     refused_at rule star first is h =
         let same : star ≡ first = cc in
-        fails_for (Unit {0} × State) rule first.0 fault error s for (subst (λ (t : TableEntry). RefusesStar rule t fault) same h)
+        fails_for (Unit {0} × State) rule first.0 fault error s for (subst (λ (t : TableToken). RefusesStar rule t fault) same h)
 
-    pub second_fails : (xs : List TableEntry) (second : TableEntry) → second_from false xs ≡ Some second → RefusesStar MappedDependencyMultipleStarredArguments second fault
+    pub second_fails : (xs : List TableToken) (second : TableToken) → second_from false xs ≡ Some second → RefusesStar MappedDependencyMultipleStarredArguments second fault
         → IsParseError error s ⊥ (second_checked xs)
     unfolding leaves
     second_fails [] second is h = absurd cc
     second_fails (x ∷ []) second is h = absurd cc
     second_fails (x ∷ y ∷ xs) second is h = refused_at MappedDependencyMultipleStarredArguments second y is h
 
-    pub missing_fails : (star : TableEntry) (xs : List TableEntry) → first_of xs ≡ None → RefusesStar MappedDependencyWithoutStarredArgument star fault
+    pub missing_fails : (star : TableToken) (xs : List TableToken) → first_of xs ≡ None → RefusesStar MappedDependencyWithoutStarredArgument star fault
         → IsParseError error s ⊥ (place_checked (Some star) xs)
     unfolding leaves
     missing_fails star [] is h = refused_at MappedDependencyWithoutStarredArgument star star refl h
     missing_fails star (x ∷ xs) is h = absurd cc
 
-    pub outside_fails : (xs : List TableEntry) (first : TableEntry) → first_of xs ≡ Some first → RefusesStar StarredArgumentOutsideMappedDependency first fault
+    pub outside_fails : (xs : List TableToken) (first : TableToken) → first_of xs ≡ Some first → RefusesStar StarredArgumentOutsideMappedDependency first fault
         → IsParseError error s ⊥ (place_checked None xs)
     unfolding leaves
     outside_fails [] first is h = absurd cc
@@ -152,7 +152,7 @@ unfolding any_starred
 any_tree [] = refl
 any_tree (k ∷ ks) = λ i. sym (some_star k.starred) i || any_tree ks i
 
-any_more : (o : Option TableEntry) (kept : List KeptArguments) (others : List TableEntry) → any_starred kept ≡ is_some (first_of others)
+any_more : (o : Option TableToken) (kept : List KeptArguments) (others : List TableToken) → any_starred kept ≡ is_some (first_of others)
     → (is_some (option_map leaves.star o) || any_starred kept) ≡ is_some (first_of (cons_option o others))
 any_more None kept others h = h
 any_more (Some star) kept others h = refl
@@ -162,12 +162,12 @@ unfolding any_starred
 any_read [] = refl
 any_read (a ∷ others) = any_more a.star (map kept_of others) (stars (map read_argument others)) (any_read others)
 
-pub star_is : (star : Option TableEntry) (arguments : List ReadArgument) (kept : List DependencyArgument) (s rest : State) → map argument_tree kept ≡ map kept_of arguments
+pub star_is : (star : Option TableToken) (arguments : List ReadArgument) (kept : List DependencyArgument) (s rest : State) → map argument_tree kept ≡ map kept_of arguments
     → place_checked s star (stars (map read_argument arguments)) ≡ Ok (tt, rest) → star_of (list_any (λ (a : DependencyArgument). a.starred) kept) ≡ option_map leaves.star star
 star_is star arguments kept s rest is checked =
     ap star_of (any_tree kept ∙ ap any_starred is ∙ any_read arguments) ∙ go star (stars (map read_argument arguments)) checked
   where
-    go : (star : Option TableEntry) (xs : List TableEntry) → place_checked s star xs ≡ Ok (tt, rest) → star_of (is_some (first_of xs)) ≡ option_map leaves.star star
+    go : (star : Option TableToken) (xs : List TableToken) → place_checked s star xs ≡ Ok (tt, rest) → star_of (is_some (first_of xs)) ≡ option_map leaves.star star
     go None [] h = refl
     go None (x ∷ xs) h = absurd cc
     go (Some star) [] h = absurd cc

@@ -10,7 +10,7 @@ use Rattle.justfile_parse_base.proofs.RuleSteps.{fails_with}
 use Rattle.justfile_parse_base.specs.ParseErrors.{IsParseError, IsErrorOfFault, IsAfterVariadicFault, IsFaultOfRead}
 use Rattle.justfile_parse_base.specs.declared.parse_error.ParseError.{ParseError}
 use Rattle.justfile_parse_expression.specs.TableReader.{State, accept, leaves}
-use Rattle.justfile_parse_expression.specs.Significant.{TableEntry}
+use Rattle.justfile_parse_expression.specs.Significant.{TableToken}
 use Rattle.justfile_parse_header.specs.HeaderTable.{expect_no_name}
 
 tells_after : (name : Token) (fault : Fault) → IsAfterVariadicFault name fault → IsFaultOfRead (reading.AfterVariadic name) fault
@@ -19,7 +19,7 @@ tells_after name faults.Memory k = absurd k
 tells_after name faults.Numbers k = absurd k
 
 -- a name follows
-pub name_follows : (s : State) (name : TableEntry) (next : State) (error : ParseError) (fault : Fault) → accept kinds.Identifier s ≡ Some (name, next)
+pub name_follows : (s : State) (name : TableToken) (next : State) (error : ParseError) (fault : Fault) → accept kinds.Identifier s ≡ Some (name, next)
     → IsErrorOfFault error fault → IsAfterVariadicFault name.0 fault → IsParseError error s ⊥ (expect_no_name s)
 unfolding headers.expect_no_name leaves
 name_follows s name next error fault found h k = rw found (fails_with (Unit {0} × State) (reading.AfterVariadic name.0) fault error s h (tells_after name.0 fault k))

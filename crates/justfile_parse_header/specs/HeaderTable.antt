@@ -12,7 +12,7 @@ use Rattle.justfile_model.specs.declared.parameter_kind.ParameterKind.{Parameter
 use Rattle.justfile_parse_base.specs.SharedTable.{view_of}
 pub use Rattle.justfile_parse_base.specs.SharedTable.{next_binding_number, path, path_rest}
 use Rattle.justfile_parse_expression.specs.TableReader.{Read, State, leaves}
-use Rattle.justfile_parse_expression.specs.Significant.{TableEntry}
+use Rattle.justfile_parse_expression.specs.Significant.{TableToken}
 use Rattle.justfile_expression.specs.LeafViews.{views_leaves}
 use Rattle.justfile_expression.specs.LeafTree.{Leaf}
 
@@ -27,10 +27,10 @@ LeafDependency = Dependency Leaf Token (Unit {0})
 
 -- an argument of a dependency with its star, while the arguments are read
 abbrev pub StarredArgument : Type 0
-StarredArgument = tree.DependencyArgument Leaf Token TableEntry
+StarredArgument = tree.DependencyArgument Leaf Token TableToken
 
 abbrev pub LeafHeader : Type 0
-LeafHeader = headers.ReadHeader TableEntry Leaf Token (Unit {0})
+LeafHeader = headers.ReadHeader TableToken Leaf Token (Unit {0})
 
 -- ---- dependencies
 
@@ -40,7 +40,7 @@ dependency_argument = headers.dependency_argument leaves
 abbrev pub plain_argument : State → Read StarredArgument
 plain_argument = headers.plain_argument leaves
 
-abbrev pub starred_argument : (before : List StarredArgument) (star : TableEntry) → State → Read StarredArgument
+abbrev pub starred_argument : (before : List StarredArgument) (star : TableToken) → State → Read StarredArgument
 starred_argument = headers.starred_argument leaves
 
 abbrev pub dependency_arguments : List StarredArgument × State → Read (List StarredArgument)
@@ -53,14 +53,14 @@ second_from false (x ∷ xs) = second_from true xs
 second_from true (x ∷ xs) = Some x
 
 -- the rule that a second star breaks
-abbrev pub second_star : (before : List StarredArgument) (star : TableEntry) → List (Broken Token)
+abbrev pub second_star : (before : List StarredArgument) (star : TableToken) → List (Broken Token)
 second_star before star = second_broken (map leaves.position (stars before ++ star ∷ []))
 
 -- the rule that a star without its counterpart breaks
-abbrev pub misplaced_star : (star : Option TableEntry) → List StarredArgument → List (Broken Token)
+abbrev pub misplaced_star : (star : Option TableToken) → List StarredArgument → List (Broken Token)
 misplaced_star star arguments = misplaced_broken (option_map leaves.position star) (map leaves.position (stars arguments))
 
-abbrev pub parenthesized : (star : Option TableEntry) → State → Read LeafDependency
+abbrev pub parenthesized : (star : Option TableToken) → State → Read LeafDependency
 parenthesized = headers.parenthesized leaves
 
 abbrev pub bare_dependency : State → Read LeafDependency

@@ -21,7 +21,7 @@ use Rattle.justfile_parse_item.specs.declared.construct.ConstructKeyword.TheVari
 use Rattle.justfile_parse_attribute.specs.AttributeTable.{Entries}
 use Rattle.justfile_parse_base.specs.declared.parse_error.ParseError.{ParseError}
 use Rattle.justfile_parse_expression.specs.TableReader.{State, leaves}
-use Rattle.justfile_parse_expression.specs.Significant.{TableEntry}
+use Rattle.justfile_parse_expression.specs.Significant.{TableToken}
 use Rattle.justfile_parse_expression.specs.View.{state_of}
 use Rattle.justfile_parse_expression.specs.declared.parser_state.ParserState.{ParserState}
 use Rattle.justfile_parse_base.specs.Counting.{ParsesCounted, counters_of, identifiers_left}
@@ -31,7 +31,7 @@ use Rattle.justfile_parse_item_parts.specs.PartTable.{accept_keyword_before, fol
 use Rattle.justfile_expression.specs.LeafTree.{Leaf}
 
 abbrev Taken : Type 0
-Taken = Option (TableEntry × State)
+Taken = Option (TableToken × State)
 
 -- ---- a construct by its word
 
@@ -70,7 +70,7 @@ by_fewer : (test : SignificantToken → Bool) (s : State) → HasFewer s (accept
 unfolding HasFewer
 by_fewer test s = go s.left refl
   where
-    go : (l : List TableEntry) → s.left ≡ l → HasFewer s (accept_by leaves test s l)
+    go : (l : List TableToken) → s.left ≡ l → HasFewer s (accept_by leaves test s l)
     go [] e = tt
     go (t ∷ ts) e = by (test (leaves.see t))
       where

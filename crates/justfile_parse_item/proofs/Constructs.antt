@@ -44,7 +44,7 @@ use Rattle.justfile_parse_attribute.specs.DerivedAttributeFields.{HaveDerivedAtt
 use Rattle.justfile_parse_base.specs.declared.parse_error.ParseError.{ParseError}
 use Rattle.justfile_parse_expression.specs.TableReader as tokens
 use Rattle.justfile_parse_expression.specs.TableReader.{Read, State, leaves}
-use Rattle.justfile_parse_expression.specs.Significant.{TableEntry}
+use Rattle.justfile_parse_expression.specs.Significant.{TableToken}
 use Rattle.justfile_expression.specs.LeafViews.{views_leaves}
 use Rattle.justfile_expression.specs.LeafTree.{Leaf}
 
@@ -63,7 +63,7 @@ extraneous_fails Y count opener fault failure s h k = fails_with Y (reading.Extr
 abbrev Found : Type 0
 Found = Option (Entry Leaf Token)
 
-module _ (item : ItemKind) (ws : Entries) (name : TableEntry) (s : State) (entries : Entries) (is : entries ≡ in_content_order ws) where
+module _ (item : ItemKind) (ws : Entries) (name : TableToken) (s : State) (entries : Entries) (is : entries ≡ in_content_order ws) where
   -- the refusal of the first that such an item may not have
   abbrev refusing : Found → Read (Unit {0})
   refusing o = obeying (of_some (λ (e : Entry Leaf Token). record { rule = InvalidAttribute item (kind_of_attribute e.attribute); token = name.0 } ∷ []) o) s
@@ -128,7 +128,7 @@ module _ (recipe : Token) where
 
 -- ---- the attributes before a construct
 
-module _ (s : State) (opener : TableEntry) (next : State) (opened : tokens.accept kinds.BracketL s ≡ Some (opener, next)) where
+module _ (s : State) (opener : TableToken) (next : State) (opened : tokens.accept kinds.BracketL s ≡ Some (opener, next)) where
   pub before_is : reader.item_attributes s ≡ reading.◌>>=◌ (reader.lines_of_attributes s) (reader.before_item opener)
   unfolding files.attributes
   before_is = rw opened refl

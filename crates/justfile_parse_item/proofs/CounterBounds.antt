@@ -26,12 +26,12 @@ use Rattle.justfile_model.proofs.Readers.ReadingSteps.{known}
 use Rattle.justfile_model.proofs.Relations.Related as a
 use Rattle.justfile_model.proofs.Relations.Related.{AlikeItem, AlikeNames, AlikeParameters, Each, Never, Related}
 use Rattle.justfile_model.proofs.Sound.FileSound.{Starts, before_sound, of_block, of_comment, of_line, on_line_at}
-use Rattle.justfile_parse_item.specs.ItemTable.{ReadItem, ReadItems, after_mark, item_attributes, after_item, item_end, attribute_leaves, line, line_end, any_item}
+use Rattle.justfile_parse_item.specs.ItemTable.{ReadItem, ReadItems, after_byte_order_mark, item_attributes, after_item, item_end, attribute_leaves, line, line_end, any_item}
 use Rattle.justfile_parse_attribute.specs.AttributeTable.{Entries}
 use Rattle.justfile_parse_expression.specs.TableReader.{Read, ReadError, State, accept, expect, leaves}
 use Rattle.justfile_expression.specs.LeafTree.{Leaf}
 use Rattle.justfile_parse_item.proofs.Anywhere.{Keeps, agree, keeps, rel, state_alike}
-use Rattle.justfile_parse_expression.proofs.Anywhere.{entries_are, state_seen}
+use Rattle.justfile_parse_expression.proofs.Anywhere.{table_tokens_are, state_seen}
 use Rattle.justfile_parse_expression.proofs.FormatStrings.{IsNext, Taken, accepted}
 use Rattle.justfile_parse_base.specs.Counting.{identifiers_left}
 use Rattle.justfile_parse_base.proofs.Fewer.{Fewer, either_fewer, expect_fewer, fewer, fewer_at, then_fewer}
@@ -95,7 +95,7 @@ module _ (n : Counters) (s : State) (open_none : s.depth ≡ 0) where
           let e = inside x ((i, m), rest) same in
           let d = on_line_at s.run.conditions n (state_seen s) y is (open_none, refl) in
           let count_of = starts_count s.run.conditions d.derived.derives in
-          let moves : MovesBy n (count n x.0.0) (identifiers_left s) (identifiers_left x.1) = counts_by n x.0.0 (identifiers_left s) (identifiers_left x.1) (omega (arith, count_of, same_count q.0, ap (λ (ts : Tokens). identifiers ts) (entries_are s.run k.left))) in
+          let moves : MovesBy n (count n x.0.0) (identifiers_left s) (identifiers_left x.1) = counts_by n x.0.0 (identifiers_left s) (identifiers_left x.1) (omega (arith, count_of, same_count q.0, ap (λ (ts : Tokens). identifiers ts) (table_tokens_are s.run k.left))) in
           let counted = subst (λ (c : Counters). MovesBy n c (identifiers_left s) (identifiers_left x.1)) (sym q.2) moves in
           subst (λ (z : (OrderedItem Leaf Token ℕ × Counters) × State). MovesBy n z.0.1 (identifiers_left s) (identifiers_left z.1)) e counted
       by_law o o' is (a.neither {e = f} h) same = absurd (no_read f ((i, m), rest) same)
@@ -115,7 +115,7 @@ attributes_fewer s ws rest open_none found =
         → Related (rel s.run) (Each (Keeps s.run)) (Never (rel s.run)) o o' → Fewer {A = Entries} s o
     by_law o o' is (a.both {x = x} {y = y} q k) =
         let read = known y (IsRead s.run.conditions (state_seen s)) is (before_sound s.run.conditions (state_seen s) (open_none, refl)) in
-        omega (arith, attribute_lines_count itself itself (BelowLimit s.run.conditions.limit) read.derived.derives, ap (λ (ts : Tokens). identifiers ts) (entries_are s.run k.left))
+        omega (arith, attribute_lines_count itself itself (BelowLimit s.run.conditions.limit) read.derived.derives, ap (λ (ts : Tokens). identifiers ts) (table_tokens_are s.run k.left))
     by_law o o' is (a.neither h) = tt
     by_law o o' is (a.short h) = absurd h
     by_law o o' is (a.deep loose) = tt
@@ -173,14 +173,14 @@ module _ (n : Counters) (s : State) (open_none : s.depth ≡ 0) where
 
 -- ---- a byte order mark
 
-pub mark_depth : (s : State) → (after_mark s).depth ≡ s.depth
+pub mark_depth : (s : State) → (after_byte_order_mark s).depth ≡ s.depth
 mark_depth s = go (accept kinds.ByteOrderMark s) (accepted kinds.ByteOrderMark s)
   where
     go : (o : Taken) → IsNext kinds.ByteOrderMark s s.left o → (choose {X = State} o s (λ mark. mark.1)).depth ≡ s.depth
     go None h = refl
     go (Some x) h = h.2
 
-pub mark_fewer : (s : State) → identifiers_left (after_mark s) ≤ identifiers_left s
+pub mark_fewer : (s : State) → identifiers_left (after_byte_order_mark s) ≤ identifiers_left s
 mark_fewer s = go (accept kinds.ByteOrderMark s) (accepted kinds.ByteOrderMark s)
   where
     go : (o : Taken) → IsNext kinds.ByteOrderMark s s.left o → identifiers_left (choose {X = State} o s (λ mark. mark.1)) ≤ identifiers_left s

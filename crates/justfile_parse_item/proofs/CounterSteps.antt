@@ -8,7 +8,7 @@ use Rattle.justfile_model.specs.Readers.ReaderState.{Counters, NoNumber}
 use Rattle.justfile_parse_item.specs.ItemTable.{next_recipe_number}
 use Rattle.justfile_parse_item.specs.MethodResults.{CountersMoved}
 use Rattle.justfile_parse_expression.specs.TableReader.{Read, State, expect, leaves}
-use Rattle.justfile_parse_expression.specs.Significant.{TableEntry}
+use Rattle.justfile_parse_expression.specs.Significant.{TableToken}
 use Rattle.justfile_parse_base.specs.Counting.{TookBindingNumbers, counters_of, identifiers_left}
 use Rattle.justfile_parse_base.specs.SharedTable.{next_binding_number}
 use Rattle.justfile_parse_base.proofs.BindingNumbers.{took_one}
@@ -28,13 +28,13 @@ pub took_moved : (old new : Numerator) (before following : ℕ) → TookBindingN
 took_moved old new before following h = record { least = h.least; recipes_least = omega (arith, h.recipes); most_is = omega (arith, h.most, h.recipes); constants = h.constants }
 
 -- an assignment is numbered, whose name was taken
-pub binding_moved : (old new : Numerator) (number : ℕ) (s rest there : State) (name : TableEntry) → expect kinds.Identifier s ≡ Ok (name, rest)
+pub binding_moved : (old new : Numerator) (number : ℕ) (s rest there : State) (name : TableToken) → expect kinds.Identifier s ≡ Ok (name, rest)
     → next_binding_number (counters_of old) there ≡ Ok ((number, counters_of new), there) → CountersMoved old new (identifiers_left s)
 binding_moved old new number s rest there name taken numbers =
     took_moved old new (identifiers_left s) 0 (took_one old new number there (identifiers_left s) 0 numbers (omega (arith, name_fewer s (name, rest) taken)))
 
 -- the parameters of a function are numbered, whose name and parenthesis were taken
-pub function_moved : (old new : Numerator) (s rest opened : State) (name opener : TableEntry) (following : ℕ) → expect kinds.Identifier s ≡ Ok (name, rest)
+pub function_moved : (old new : Numerator) (s rest opened : State) (name opener : TableToken) (following : ℕ) → expect kinds.Identifier s ≡ Ok (name, rest)
     → expect kinds.ParenL rest ≡ Ok (opener, opened) → TookBindingNumbers old new (identifiers_left opened) following → CountersMoved old new (identifiers_left s)
 function_moved old new s rest opened name opener following taken next numbers =
     more_moved old new (identifiers_left opened) (identifiers_left s) (took_moved old new (identifiers_left opened) following numbers)

@@ -16,12 +16,12 @@ use Rattle.justfile_parse_item.specs.ConstructKeywords.{Beginning, KeywordTaken,
 use Rattle.justfile_parse_item.specs.declared.construct.ConstructKeyword.{ConstructKeyword}
 use Rattle.justfile_parse_item.specs.declared.construct.TheConstants.{BEGINNINGS}
 use Rattle.justfile_parse_expression.specs.TableReader.{State, accept, leaves}
-use Rattle.justfile_parse_expression.specs.Significant.{TableEntry, significant_of}
+use Rattle.justfile_parse_expression.specs.Significant.{TableToken, significant_of}
 use Rattle.justfile_parse_item_parts.specs.PartTable.{accept_keyword_before, follows}
 use Rattle.justfile_parse_item_parts.specs.declared.lookahead.Lookahead.{Lookahead}
 
 abbrev Taken : Type 0
-Taken = Option (TableEntry × State)
+Taken = Option (TableToken × State)
 
 cond_none : {X : Type 0} (b : Bool) (x : X) → cond {A = Option X} b (Some x) None ≡ None → b ≡ false
 cond_none true x h = cc
@@ -39,20 +39,20 @@ abbrev is_name : SignificantToken → Bool
 is_name t = same_kind t.tok.kind kinds.Identifier
 
 -- no word is taken where no name comes next
-unnamed_by : (k : List ℕ) (s : State) (l : List TableEntry) → accept_by leaves is_name s l ≡ None → accept_by leaves (is_word k) s l ≡ None
+unnamed_by : (k : List ℕ) (s : State) (l : List TableToken) → accept_by leaves is_name s l ≡ None → accept_by leaves (is_word k) s l ≡ None
 unfolding is_word leaves
 unnamed_by k s [] h = refl
 unnamed_by k s (t ∷ ts) h =
     ap (λ (b : Bool). cond {A = Taken} (b && bytes_eq (significant_of t).tok.lexeme k) (Some (t, at s ts)) None) (cond_none (is_name (significant_of t)) (t, at s ts) h)
 
 -- nor where another word comes next
-unlike_by : (k : List ℕ) (s : State) (l : List TableEntry) (entry : TableEntry) (rest : State) → accept_by leaves is_name s l ≡ Some (entry, rest)
-    → bytes_eq (lexeme_of entry.0) k ≡ false → accept_by leaves (is_word k) s l ≡ None
+unlike_by : (k : List ℕ) (s : State) (l : List TableToken) (table_token : TableToken) (rest : State) → accept_by leaves is_name s l ≡ Some (table_token, rest)
+    → bytes_eq (lexeme_of table_token.0) k ≡ false → accept_by leaves (is_word k) s l ≡ None
 unfolding is_word leaves
-unlike_by k s [] entry rest h n = cc
-unlike_by k s (t ∷ ts) entry rest h n =
-    let same : t ≡ entry = ap (λ (x : TableEntry × State). x.0) (cond_some (is_name (significant_of t)) (t, at s ts) (entry, rest) h) in
-    let other : bytes_eq (lexeme_of t.0) k ≡ false = ap (λ (x : TableEntry). bytes_eq (lexeme_of x.0) k) same ∙ n in
+unlike_by k s [] table_token rest h n = cc
+unlike_by k s (t ∷ ts) table_token rest h n =
+    let same : t ≡ table_token = ap (λ (x : TableToken × State). x.0) (cond_some (is_name (significant_of t)) (t, at s ts) (table_token, rest) h) in
+    let other : bytes_eq (lexeme_of t.0) k ≡ false = ap (λ (x : TableToken). bytes_eq (lexeme_of x.0) k) same ∙ n in
     ap (λ (b : Bool). cond {A = Taken} b (Some (t, at s ts)) None) (second_false (is_name (significant_of t)) (bytes_eq (lexeme_of t.0) k) other)
 
 -- ---- the keywords, one after another
@@ -86,13 +86,13 @@ abbrev by_row : State → Option Beginning → KeywordTaken
 by_row s None = None
 by_row s (Some row) = taken_as row.0 (one_taken row s) None
 
-module _ (s : State) (entry : TableEntry) (rest : State) (h : accept kinds.Identifier s ≡ Some (entry, rest)) where
+module _ (s : State) (table_token : TableToken) (rest : State) (h : accept kinds.Identifier s ≡ Some (table_token, rest)) where
   abbrev is_here : Beginning → Bool
-  is_here row = bytes_eq (lexeme_of entry.0) (keyword_text row.1)
+  is_here row = bytes_eq (lexeme_of table_token.0) (keyword_text row.1)
 
   unlike : (row : Beginning) → is_here row ≡ false → one_taken row s ≡ None
   unfolding reading.accept reading.accept_keyword
-  unlike row n = none_before row s (unlike_by (keyword_text row.1) s s.left entry rest h n)
+  unlike row n = none_before row s (unlike_by (keyword_text row.1) s s.left table_token rest h n)
 
   none_of : (rows : List Beginning) → list_any is_here rows ≡ false → first_taken rows s ≡ None
   none_of [] n = refl
@@ -107,23 +107,23 @@ module _ (s : State) (entry : TableEntry) (rest : State) (h : accept kinds.Ident
       by : (b : Bool) → is_here r ≡ b → first_taken rs s ≡ by_row s (find is_here rs) → first_taken (r ∷ rs) s ≡ by_row s (cond b (Some r) (find is_here rs))
       by false e others = ap (λ (x : Taken). taken_as r.0 x (first_taken rs s)) (unlike r e) ∙ others
       by true e others =
-          let same : lexeme_of entry.0 ≡ keyword_text r.1 = (bytes_eq-Decides (lexeme_of entry.0) (keyword_text r.1)).0 e in
+          let same : lexeme_of table_token.0 ≡ keyword_text r.1 = (bytes_eq-Decides (lexeme_of table_token.0) (keyword_text r.1)).0 e in
           ap (taken_as r.0 (one_taken r s)) (none_of rs (ap (λ (w : List ℕ). list_any (λ row. bytes_eq w (keyword_text row.1)) rs) same ∙ apart.0))
 
-  by_its_word : keyword_taken s ≡ by_row s (beginning_of (lexeme_of entry.0))
+  by_its_word : keyword_taken s ≡ by_row s (beginning_of (lexeme_of table_token.0))
   unfolding keyword_taken
   by_its_word = taken BEGINNINGS (refl, (refl, (refl, (refl, (refl, (refl, (refl, tt)))))))
 
   -- the word is none of the keywords
-  pub other_word : beginning_of (lexeme_of entry.0) ≡ None → keyword_taken s ≡ None
+  pub other_word : beginning_of (lexeme_of table_token.0) ≡ None → keyword_taken s ≡ None
   other_word e = by_its_word ∙ ap (by_row s) e
 
   -- it is that of a row, where it isn't followed as it has to be
-  pub not_followed : (word : ConstructKeyword) (keyword : Keyword) (lookahead : Lookahead) → beginning_of (lexeme_of entry.0) ≡ Some (word, keyword, lookahead)
+  pub not_followed : (word : ConstructKeyword) (keyword : Keyword) (lookahead : Lookahead) → beginning_of (lexeme_of table_token.0) ≡ Some (word, keyword, lookahead)
       → accept_keyword_before (keyword_text keyword) (follows lookahead) s ≡ None → keyword_taken s ≡ None
   not_followed word keyword lookahead e n = by_its_word ∙ ap (by_row s) e ∙ ap (λ (o : Taken). taken_as word o None) n
 
   -- where it is
-  pub followed : (word : ConstructKeyword) (keyword : Keyword) (lookahead : Lookahead) → beginning_of (lexeme_of entry.0) ≡ Some (word, keyword, lookahead)
-      → (found : TableEntry) (new : State) → accept_keyword_before (keyword_text keyword) (follows lookahead) s ≡ Some (found, new) → keyword_taken s ≡ Some (word, new)
+  pub followed : (word : ConstructKeyword) (keyword : Keyword) (lookahead : Lookahead) → beginning_of (lexeme_of table_token.0) ≡ Some (word, keyword, lookahead)
+      → (found : TableToken) (new : State) → accept_keyword_before (keyword_text keyword) (follows lookahead) s ≡ Some (found, new) → keyword_taken s ≡ Some (word, new)
   followed word keyword lookahead e found new t = by_its_word ∙ ap (by_row s) e ∙ ap (λ (o : Taken). taken_as word o None) t

@@ -11,11 +11,11 @@ use Rattle.justfile_token.specs.Token.{lexeme_of}
 use Rattle.justfile_vocabulary.specs.declared.token_kind.TokenKind.{TokenKind}
 use Rattle.justfile_vocabulary.specs.declared.token_kind.TokenKind.TheVariants as kinds
 use Rattle.justfile_parse_expression.specs.Literal.{IsOf, is_delimited}
-use Rattle.justfile_parse_expression.specs.Significant.{TableEntry}
+use Rattle.justfile_parse_expression.specs.Significant.{TableToken}
 
 -- a comment that is taken begins so
-pub begins_hash : (entry : TableEntry) → IsOf kinds.Comment entry → IsTrue (starts_with nat_eq (lexeme_of entry.0) (codes "#"))
-begins_hash entry h = subst (λ (k : TokenKind). IsTrue (is_delimited k (lexeme_of entry.0))) h.0 h.1
+pub begins_hash : (table_token : TableToken) → IsOf kinds.Comment table_token → IsTrue (starts_with nat_eq (lexeme_of table_token.0) (codes "#"))
+begins_hash table_token h = subst (λ (k : TokenKind). IsTrue (is_delimited k (lexeme_of table_token.0))) h.0 h.1
 
 chars_hash : (rest : List ℕ) → chars (35 ∷ rest) ≡ 35 ∷ chars rest
 unfolding chars

@@ -15,16 +15,16 @@ use Rattle.justfile_parse_attribute.specs.AttributeTable.{Entries}
 use Rattle.justfile_parse_base.specs.ParseErrors.{IsParseError}
 use Rattle.justfile_parse_base.specs.declared.parse_error.ParseError.{ParseError}
 use Rattle.justfile_parse_expression.specs.TableReader.{At, ReadError, State, expect, leaves, read}
-use Rattle.justfile_parse_expression.specs.Significant.{TableEntry}
+use Rattle.justfile_parse_expression.specs.Significant.{TableToken}
 use Rattle.justfile_parse_base.proofs.HeaderErrors.{failed}
 use Rattle.justfile_parse_base.specs.SharedTable.{next_binding_number, path}
 use Rattle.justfile_parse_item_parts.specs.PartTable.{file_path, setting_keyword, names, optional_path, setting_value}
 use Rattle.justfile_expression.specs.LeafTree.{Leaf}
 
-module _ (ws : Entries) (n : Counters) (s : State) (name : TableEntry) (named : State) (taken : expect kinds.Identifier s ≡ Ok (name, named)) where
+module _ (ws : Entries) (n : Counters) (s : State) (name : TableToken) (named : State) (taken : expect kinds.Identifier s ≡ Ok (name, named)) where
   -- ---- an assignment
 
-  module _ (eager export : Bool) (operator : TableEntry) (rest : State) (e : Expr Leaf Token) (t : State) (assigned : expect kinds.ColonEquals named ≡ Ok (operator, rest))
+  module _ (eager export : Bool) (operator : TableToken) (rest : State) (e : Expr Leaf Token) (t : State) (assigned : expect kinds.ColonEquals named ≡ Ok (operator, rest))
       (value : read (At levels.Expression false rest) ≡ Ok (e, t)) where
     assignment_fails : (f : ReadError) → reader.check_allowed item_kinds.Assignment ws name t ≡ Err f → reader.assignment eager export ws n s ≡ Err f
     unfolding files.assignment
@@ -56,7 +56,7 @@ module _ (ws : Entries) (n : Counters) (s : State) (name : TableEntry) (named : 
 
   -- ---- an alias
 
-  module _ (operator : TableEntry) (rest : State) (target : List Leaf) (t : State) (assigned : expect kinds.ColonEquals named ≡ Ok (operator, rest)) (found : path rest ≡ Ok (target, t)) where
+  module _ (operator : TableToken) (rest : State) (target : List Leaf) (t : State) (assigned : expect kinds.ColonEquals named ≡ Ok (operator, rest)) (found : path rest ≡ Ok (target, t)) where
     alias_fails : (f : ReadError) → reader.check_allowed item_kinds.Alias ws name t ≡ Err f → reader.alias ws n s ≡ Err f
     unfolding files.alias
     alias_fails f is = rw (taken, assigned, found, is) refl
@@ -115,13 +115,13 @@ module _ (ws : Entries) (n : Counters) (s : State) (name : TableEntry) (named : 
   function_attributes_fail error left Wanting h =
       failed (reader.check_allowed item_kinds.Function ws name named) (reader.function ws n s) function_disallowed error left ⊥ Wanting (λ k. absurd k) h
 
-  module _ (opener : TableEntry) (opened : State) (allowed : reader.check_allowed item_kinds.Function ws name named ≡ Ok (tt, named)) (next : expect kinds.ParenL named ≡ Ok (opener, opened)) where
+  module _ (opener : TableToken) (opened : State) (allowed : reader.check_allowed item_kinds.Function ws name named ≡ Ok (tt, named)) (next : expect kinds.ParenL named ≡ Ok (opener, opened)) where
     function_fails : (f : ReadError) → names (n, opened) ≡ Err f → reader.function ws n s ≡ Err f
     unfolding files.function
     function_fails f is = rw (taken, allowed, next, is) refl
 
     -- all of it is read
-    pub function_read : (ps : List Leaf × Counters) (u : State) → names (n, opened) ≡ Ok (ps, u) → (operator : TableEntry) (rest : State) → expect kinds.ColonEquals u ≡ Ok (operator, rest)
+    pub function_read : (ps : List Leaf × Counters) (u : State) → names (n, opened) ≡ Ok (ps, u) → (operator : TableToken) (rest : State) → expect kinds.ColonEquals u ≡ Ok (operator, rest)
         → (e : Expr Leaf Token) (left : State) → read (At levels.Expression false rest) ≡ Ok (e, left)
         → reader.function ws n s
         ≡ Ok ((tree.Construct (reader.in_content_order ws) (tree.Function (record { name = leaves.name name; parameters = ps.0; body = e })), ps.1), left)
@@ -135,7 +135,7 @@ module _ (ws : Entries) (n : Counters) (s : State) (name : TableEntry) (named : 
 
 -- ---- an import
 
-module _ (ws : Entries) (n : Counters) (s : State) (optional : Bool) (found_path : TableEntry × Quoted Leaf) (t : State) (found : file_path s ≡ Ok (found_path, t)) where
+module _ (ws : Entries) (n : Counters) (s : State) (optional : Bool) (found_path : TableToken × Quoted Leaf) (t : State) (found : file_path s ≡ Ok (found_path, t)) where
   imported_fails : (f : ReadError) → reader.check_allowed item_kinds.Import ws found_path.0 t ≡ Err f → reader.imported optional ws n s ≡ Err f
   unfolding files.imported
   imported_fails f is = rw (found, is) refl

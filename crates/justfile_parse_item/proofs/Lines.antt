@@ -23,7 +23,7 @@ use Rattle.justfile_parse_item.specs.Tree.{item_tree}
 use Rattle.justfile_parse_item_parts.specs.BodyTrees.{line_tree}
 use Rattle.justfile_expression.specs.LeafTree.{Leaf}
 use Rattle.justfile_parse_base.specs.declared.parse_error.ParseError.{ParseError}
-use Rattle.justfile_parse_expression.specs.Significant.{TableEntry}
+use Rattle.justfile_parse_expression.specs.Significant.{TableToken}
 use Rattle.justfile_parse_expression.specs.declared.expression_error.ExpressionError.{ExpressionError}
 use Rattle.justfile_parse_expression.specs.declared.expression_error.ExpressionError.TheVariants.{Refused, Literal, Memory, Numbers}
 use Rattle.justfile_parse_base.proofs.HeaderErrors.{failed}
@@ -32,11 +32,11 @@ abbrev Items : Type 0
 Items = List (OrderedItem Leaf Token ℕ)
 
 module _ (done : Items) (s : State) where
-  pub line_end_closes : (end : TableEntry × State) → accept kinds.Eof s ≡ Some end → prepend done (line_end s) ≡ Ok (done, s)
+  pub line_end_closes : (end : TableToken × State) → accept kinds.Eof s ≡ Some end → prepend done (line_end s) ≡ Ok (done, s)
   unfolding prepend files.line_end
   line_end_closes end h = rw h (ap (λ (l : Items). Ok (l, s)) (append-nil done))
 
-  pub line_end_newline : (t : TableEntry) (rest : State) → accept kinds.Eof s ≡ None → expect kinds.Eol s ≡ Ok (t, rest) → prepend done (line_end s) ≡ Ok (done ++ tree.Newline ∷ [], rest)
+  pub line_end_newline : (t : TableToken) (rest : State) → accept kinds.Eof s ≡ None → expect kinds.Eol s ≡ Ok (t, rest) → prepend done (line_end s) ≡ Ok (done ++ tree.Newline ∷ [], rest)
   unfolding prepend files.line_end
   line_end_newline t rest h1 h2 = rw (h1, h2) refl
 
@@ -60,7 +60,7 @@ module _ (done : Items) (s : State) where
   then_end i (Ok x) = ap (λ (l : Items). Ok (l, x.1)) (sym (append_assoc done (i ∷ []) x.0))
   then_end i (Err e) = refl
 
-  pub after_comment : (c : TableEntry) (rest : State) → accept kinds.Comment s ≡ Some (c, rest) → prepend done (after_item s) ≡ prepend (done ++ comment_item leaves attribute_leaves c ∷ []) (line_end rest)
+  pub after_comment : (c : TableToken) (rest : State) → accept kinds.Comment s ≡ Some (c, rest) → prepend done (after_item s) ≡ prepend (done ++ comment_item leaves attribute_leaves c ∷ []) (line_end rest)
   unfolding files.after_item
   after_comment c rest h = rw h (then_end (comment_item leaves attribute_leaves c) (line_end rest))
 
@@ -73,7 +73,7 @@ module _ (done : Items) (s : State) where
   ended_after b h = rw h refl
 
   module _ (n : Counters) where
-    pub line_blank : (t : TableEntry) (rest : State) → accept kinds.Eol s ≡ Some (t, rest) → after_numbered done (line n s) ≡ Ok ((done ++ tree.Newline ∷ [], n), rest)
+    pub line_blank : (t : TableToken) (rest : State) → accept kinds.Eol s ≡ Some (t, rest) → after_numbered done (line n s) ≡ Ok ((done ++ tree.Newline ∷ [], n), rest)
     unfolding after_numbered files.line
     line_blank t rest h = rw h refl
 

@@ -22,7 +22,7 @@ use Rattle.justfile_parse_base.specs.ParseErrors.{IsParseError}
 use Rattle.justfile_parse_base.specs.declared.parse_error.ParseError.{ParseError}
 use Rattle.justfile_parse_expression.specs.MethodResults.{IsExpressionError}
 use Rattle.justfile_parse_expression.specs.TableReader.{Read, ReadError, State, accept, leaves}
-use Rattle.justfile_parse_expression.specs.Significant.{TableEntry}
+use Rattle.justfile_parse_expression.specs.Significant.{TableToken}
 use Rattle.justfile_parse_expression.specs.declared.expression_error.ExpressionError.{ExpressionError}
 use Rattle.justfile_parse_header.specs.HeaderTable.{LeafHeader, header}
 use Rattle.justfile_parse_base.specs.Counting.{identifiers_left}
@@ -116,7 +116,7 @@ recipe_named depth depth' offsets offsets' name name' number a b c = λ i. recor
 
 -- ---- `@` before the name
 
-by_mark : {X : Type 0} (f : Bool → State → X) (s : State) (o : Option (TableEntry × State)) → choose o (f false s) (λ x. f true x.1) ≡ f (taken_or s o).0 (taken_or s o).1
+by_mark : {X : Type 0} (f : Bool → State → X) (s : State) (o : Option (TableToken × State)) → choose o (f false s) (λ x. f true x.1) ≡ f (taken_or s o).0 (taken_or s o).1
 by_mark f s None = refl
 by_mark f s (Some x) = refl
 
@@ -126,7 +126,7 @@ pub any_recipe_is : (ws : Entries) (n : Counters) (s : State)
 unfolding files.any_recipe accepted
 any_recipe_is ws n s = by_mark (λ quiet t. reader.recipe quiet ws n t) s (accept kinds.At s)
 
-mark_fewer : (s : State) (o : Option (TableEntry × State)) → ((x : TableEntry × State) → o ≡ Some x → identifiers_left x.1 ≤ identifiers_left s)
+mark_fewer : (s : State) (o : Option (TableToken × State)) → ((x : TableToken × State) → o ≡ Some x → identifiers_left x.1 ≤ identifiers_left s)
     → identifiers_left (taken_or s o).1 ≤ identifiers_left s
 mark_fewer s None h = omega arith
 mark_fewer s (Some x) h = h x refl

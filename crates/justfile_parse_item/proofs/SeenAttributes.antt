@@ -363,15 +363,15 @@ module _ (conditions : Conditions) (bound : ℕ) (IsToken : Token → Type 0) (f
   all_mean a.nil = refl
   all_mean (a.cons h hs) = rw (h.means, all_mean hs) refl
 
-  each_entry : {xs : List (Entry Leaf Token)} {ys : List ReadAttribute} → Each IsKept xs ys → Each (AlikeEntry seen) xs (map entry_read ys)
-  each_entry a.nil = a.nil
-  each_entry (a.cons h hs) = a.cons h.alike (each_entry hs)
+  each_table_token : {xs : List (Entry Leaf Token)} {ys : List ReadAttribute} → Each IsKept xs ys → Each (AlikeEntry seen) xs (map entry_read ys)
+  each_table_token a.nil = a.nil
+  each_table_token (a.cons h hs) = a.cons h.alike (each_table_token hs)
 
   meant : {xs : List (Entry Leaf Token)} {ys : List ReadAttribute} → Each IsKept xs ys
       → AreMeant conditions bound IsToken file_depth import_offsets (in_order (entry_cmp views_leaves) xs) (map (λ (x : ReadAttribute). x.written) ys)
   meant {xs} {ys} h set e =
       let sorted : Each (AlikeEntry seen) (in_order (entry_cmp views_leaves) xs) (in_order (entry_cmp (views_tokens E)) (map entry_read ys)) =
-      ordered_alike seen views_leaves (views_tokens E) contents_alike (each_entry h) in
+      ordered_alike seen views_leaves (views_tokens E) contents_alike (each_table_token h) in
       let x = set_seen set (subst (λ (es : List (Entry Leaf Token)). Each (AlikeEntry seen) es (in_order (entry_cmp (views_tokens E)) (map entry_read ys))) (sym e) sorted) in
       (rw (all_mean h) (ap Some x.0), x.1)
 

@@ -11,7 +11,7 @@ use Rattle.justfile_parse_item.specs.declared.construct.ConstructKeyword.{Constr
 use Rattle.justfile_parse_item.specs.declared.construct.ConstructKeyword.TheVariants.{Alias, Eager, Export, Import, Mod, Set, Unexport}
 use Rattle.justfile_parse_attribute.specs.AttributeTable.{Entries}
 use Rattle.justfile_parse_expression.specs.TableReader.{State}
-use Rattle.justfile_parse_expression.specs.Significant.{TableEntry}
+use Rattle.justfile_parse_expression.specs.Significant.{TableToken}
 use Rattle.justfile_parse_item_parts.specs.PartTable.{accept_keyword_before, follows}
 use Rattle.justfile_parse_item_parts.specs.declared.lookahead.Lookahead.{Lookahead}
 
@@ -20,7 +20,7 @@ abbrev pub KeywordTaken : Type 0
 KeywordTaken = Option (ConstructKeyword × State)
 
 -- this keyword if its token was taken, or else another result
-abbrev pub taken_as : ConstructKeyword → Option (TableEntry × State) → KeywordTaken → KeywordTaken
+abbrev pub taken_as : ConstructKeyword → Option (TableToken × State) → KeywordTaken → KeywordTaken
 taken_as word None otherwise = otherwise
 taken_as word (Some x) otherwise = Some (word, x.1)
 
@@ -33,7 +33,7 @@ abbrev pub beginning_of : List ℕ → Option Beginning
 beginning_of word = find (λ row. bytes_eq word (keyword_text row.1)) BEGINNINGS
 
 -- the token of this keyword, if it comes next and is followed as it has to be
-abbrev pub one_taken : Beginning → State → Option (TableEntry × State)
+abbrev pub one_taken : Beginning → State → Option (TableToken × State)
 one_taken row s = accept_keyword_before (keyword_text row.1) (follows row.2) s
 
 abbrev pub first_taken : List Beginning → State → KeywordTaken

@@ -46,19 +46,19 @@ use Rattle.justfile_model.specs.LiteralTexts.Literals.{Expansions, Command, cook
 use Rattle.justfile_vocabulary.specs.declared.list_feature.ListFeature.{ListFeature}
 use Rattle.justfile_expression.specs.declared.expression.Expression.{Expression, And', Assert', Backtick, Call', Comparison', Concatenation', Conditional', FormatString', Group', Join', List', ListConcatenation', Not', Or', StringLiteral, Variable, Held-Expression-Assert-1 as OptionalExpression, None', Some', Row_of-Expression as ExpressionRow, end_of-Expression as row_end, more_of-Expression as row_more, Row_of-Expression-FormatString-1-2 as FormatRow, end_of-Expression-FormatString-1-2 as format_row_end, more_of-Expression-FormatString-1-2 as format_row_more}
 use Rattle.justfile_parse_item.specs.DerivedFields.{is_private_item}
-use Rattle.justfile_parse_expression.specs.Significant.{TableEntry}
+use Rattle.justfile_parse_expression.specs.Significant.{TableToken}
 use Rattle.justfile_parse_header.specs.ArgAttribute.{HaveDerivedParameterFields}
 use Rattle.justfile_parse_header.specs.Tree.{rules_of}
 use Rattle.justfile_setting.specs.declared.setting.Setting as values
 use Rattle.justfile_setting.specs.declared.setting.Setting.TheVariants as settings
 
--- The table has an entry with the token.
-pub record IsInTable (table : List TableEntry) (token : Token) : Type 0 where
+-- The token is in the table.
+pub record IsInTable (table : List TableToken) (token : Token) : Type 0 where
   pub glued : Bool
   pub among : Contains table (token, glued)
 
 -- Each feature was noted at a token of the table.
-pub record AreNotedIn (table : List TableEntry) (features : List (ListFeature × Token)) : Type 0 where
+pub record AreNotedIn (table : List TableToken) (features : List (ListFeature × Token)) : Type 0 where
   pub all : All (λ (x : ListFeature × Token). IsInTable table x.1) features
 
 -- The literal has a token that `IsToken` allows, and its text, which is expanded if the literal is marked so. It isn't part of a format

@@ -16,7 +16,7 @@ use Rattle.justfile_model.specs.Readers.ReaderState as reading
 use Rattle.justfile_model.specs.Readers.ReaderState.{Counters, refused}
 use Rattle.justfile_expression.specs.LeafViews.{views_leaves}
 use Rattle.justfile_expression.specs.LeafTree.{Leaf, Text}
-use Rattle.justfile_parse_expression.specs.Significant.{TableEntry}
+use Rattle.justfile_parse_expression.specs.Significant.{TableToken}
 use Rattle.justfile_parse_attribute.specs.AttributeTable.{Entries}
 pub use Rattle.justfile_parse_item_parts.specs.BodyTable.{CommentedBody, body, body_after, body_line, fragment, line_rest, lines, optional_body}
 use Rattle.justfile_parse_expression.specs.TableReader.{Read, Run, State, leaves}
@@ -102,7 +102,7 @@ abbrev pub lines_of_attributes : State → Read Entries
 lines_of_attributes = attributes.attribute_lines leaves attribute_leaves.view attribute_leaves.keep attribute_leaves.entry attribute_leaves.comment
 
 -- refuses attributes before a blank line or a comment, at their opening bracket
-abbrev pub before_item : (opener : TableEntry) → Entries × State → Read Entries
+abbrev pub before_item : (opener : TableToken) → Entries × State → Read Entries
 before_item = files.before_item leaves attribute_leaves
 
 -- whether a blank line or a comment comes next
@@ -110,7 +110,7 @@ abbrev pub stands_alone : State → Bool
 stands_alone = files.stands_alone leaves attribute_leaves
 
 -- checks that an item of this kind with this name may have these attributes
-abbrev pub check_allowed : ItemKind → Entries → TableEntry → State → Read (Unit {0})
+abbrev pub check_allowed : ItemKind → Entries → TableToken → State → Read (Unit {0})
 check_allowed = files.check_allowed leaves attribute_leaves
 
 -- a construct without a keyword, after its attributes
@@ -146,11 +146,11 @@ abbrev pub file : Counters → State → ReadItems
 file = files.file leaves attribute_leaves
 
 -- the state after a byte order mark, if one comes first
-abbrev pub after_mark : State → State
-after_mark = files.after_mark leaves attribute_leaves
+abbrev pub after_byte_order_mark : State → State
+after_byte_order_mark = files.after_byte_order_mark leaves attribute_leaves
 
 -- refuses tokens after the end of the file
-abbrev pub nothing_by : State → List TableEntry → Read (Unit {0})
+abbrev pub nothing_by : State → List TableToken → Read (Unit {0})
 nothing_by s [] = Ok (tt, s)
 nothing_by s (t ∷ ts) = Err (refused reading.Unexpected s)
 

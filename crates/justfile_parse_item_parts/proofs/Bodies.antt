@@ -16,7 +16,7 @@ use Rattle.justfile_parse_expression.specs.MethodResults.{IsExpressionError, lit
 use Rattle.justfile_parse_item_parts.specs.BodyTrees.{fragment_tree, line_tree}
 use Rattle.justfile_expression.specs.LeafTree.{Leaf, Text}
 use Rattle.justfile_model.specs.declared.level.Level.TheVariants as levels
-use Rattle.justfile_parse_expression.specs.Significant.{TableEntry}
+use Rattle.justfile_parse_expression.specs.Significant.{TableToken}
 use Rattle.justfile_parse_expression.specs.declared.expression_error.ExpressionError.{ExpressionError}
 use Rattle.justfile_parse_expression.specs.declared.expression_error.ExpressionError.TheVariants.{Refused, Literal, Memory, Numbers}
 use Rattle.justfile_model.proofs.Readers.ItemReading as laws
@@ -54,7 +54,7 @@ module _ (old between new : List Fragment) (f : Fragment) (kept : between ≡ ol
   tree_pushed : map fragment_tree old ++ fragment_tree f ∷ [] ≡ map fragment_tree new
   tree_pushed = sym (map-append fragment_tree old (f ∷ [])) ∙ ap (map fragment_tree) (ap (λ (l : List Fragment). l ++ f ∷ []) (sym kept) ∙ sym pushed)
 
-  pub one_text : (s rest : State) (t : TableEntry) → fragment_tree f ≡ tree.Text (Text t.0) → accept kinds.Text s ≡ Some (t, rest) → one_more (map fragment_tree old) s ≡ Ok (map fragment_tree new, rest)
+  pub one_text : (s rest : State) (t : TableToken) → fragment_tree f ≡ tree.Text (Text t.0) → accept kinds.Text s ≡ Some (t, rest) → one_more (map fragment_tree old) s ≡ Ok (map fragment_tree new, rest)
   one_text s rest t is taken =
       one_more_is (map fragment_tree old) s
       ∙ rw taken (ap (λ (l : Fragments). Ok (l, rest)) (ap (λ (x : tree.Fragment Leaf Token). map fragment_tree old ++ x ∷ []) (sym is) ∙ tree_pushed))
@@ -87,7 +87,7 @@ begins found = laws.after_begin found
 -- ---- the fragments of a line
 
 module _ (s q : State) (done : List Fragment) (so_far : prepend (map fragment_tree done) (line_rest q) ≡ line_rest s) where
-  pub line_ends : (end : TableEntry) (rest : State) → accept kinds.Eol q ≡ Some (end, rest) → line_rest s ≡ Ok (map fragment_tree done, rest)
+  pub line_ends : (end : TableToken) (rest : State) → accept kinds.Eol q ≡ Some (end, rest) → line_rest s ≡ Ok (map fragment_tree done, rest)
   line_ends end rest is = sym so_far ∙ laws.line_rest_end leaves (map fragment_tree done) q end rest is
 
   module _ (none : accept kinds.Eol q ≡ None) where
@@ -118,7 +118,7 @@ module _ (s q : State) (done : List Fragment) (so_far : prepend (map fragment_tr
 -- ---- the lines of a body
 
 module _ (s q : State) (done : List Line) (so_far : prepend (map line_tree done) (lines q) ≡ lines s) where
-  pub lines_end : (end : TableEntry) (rest : State) → accept kinds.Dedent q ≡ Some (end, rest) → lines s ≡ Ok (map line_tree done, rest)
+  pub lines_end : (end : TableToken) (rest : State) → accept kinds.Dedent q ≡ Some (end, rest) → lines s ≡ Ok (map line_tree done, rest)
   lines_end end rest is = sym so_far ∙ laws.lines_end leaves (map line_tree done) q end rest is
 
   module _ (none : accept kinds.Dedent q ≡ None) where
@@ -128,7 +128,7 @@ module _ (s q : State) (done : List Line) (so_far : prepend (map line_tree done)
     pub lines_stop : (stop : ExpressionError) (left : State) → IsExpressionError stop left ⊥ (body_line q) → IsExpressionError stop left ⊥ (lines s)
     lines_stop stop left = stops line_tree lines s q done so_far (body_line q) stop left (λ e h. laws.lines_fail leaves (map line_tree done) q e none h)
 
--- a line takes an entry where no body ends
+-- a line takes a token where no body ends
 pub body_line_shrinks : (q : State) (l : Line) (rest : State) → accept kinds.Dedent q ≡ None → body_line q ≡ Ok (line_tree l, rest) → length rest.left < length q.left
 body_line_shrinks q l rest none value = (known {X = BodyLine Leaf Token ℕ × State} (line_tree l, rest) (λ x. length x.1.left < length q.left × (x.1.depth ≡ q.depth) × (x.1.run ≡ q.run)) value (laws.body_line_goes leaves q none)).0
 

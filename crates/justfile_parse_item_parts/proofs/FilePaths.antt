@@ -8,7 +8,7 @@ use Rattle.justfile_model.specs.Readers.PartReader as parts
 use Rattle.justfile_model.specs.Readers.ReaderState.{◌>>=◌}
 use Rattle.justfile_model.specs.Trees.Tree.{Quoted}
 use Rattle.justfile_parse_expression.specs.TableReader.{Read, State, expect, leaves, string_leaf}
-use Rattle.justfile_parse_expression.specs.Significant.{TableEntry}
+use Rattle.justfile_parse_expression.specs.Significant.{TableToken}
 use Rattle.justfile_parse_expression.proofs.Rules.{bind_alike, then_made}
 use Rattle.justfile_parse_item_parts.specs.PartTable.{expansion_mark, file_path}
 use Rattle.justfile_expression.specs.LeafTree.{Leaf}
@@ -17,13 +17,13 @@ use Rattle.justfile_parse_base.specs.declared.parse_error.ParseError.{ParseError
 use Rattle.justfile_parse_base.proofs.HeaderErrors.{first_errs}
 
 abbrev Path : Type 0
-Path = TableEntry × Quoted Leaf
+Path = TableToken × Quoted Leaf
 
 -- a path of the leaf of its literal
-abbrev pub path_of : (expand : Bool) → TableEntry → Leaf → Path
+abbrev pub path_of : (expand : Bool) → TableToken → Leaf → Path
 path_of expand token leaf = (token, record { expanded = expand; token = leaf })
 
-by_leaf : (expand : Bool) (x : TableEntry × State) (text : Result (List ℕ) LiteralFault)
+by_leaf : (expand : Bool) (x : TableToken × State) (text : Result (List ℕ) LiteralFault)
     → (by_text leaves (λ text. parts.quoted_of leaves expand (leaves.literal x.0 (string_of expand (leaves.see x.0).tok.lexeme) text)) x text >>= parts.path_at leaves x.0)
     ≡ (by_text leaves (λ text. leaves.literal x.0 (string_of expand (leaves.see x.0).tok.lexeme) text) x text >>= then_made (path_of expand x.0))
 by_leaf expand x (Ok text) = refl

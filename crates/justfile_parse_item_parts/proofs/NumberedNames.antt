@@ -15,7 +15,7 @@ use Rattle.justfile_parse_base.specs.SharedTable.{separator}
 use Rattle.justfile_parse_base.specs.ParseErrors.{IsParseError}
 use Rattle.justfile_parse_base.specs.declared.parse_error.ParseError.{ParseError}
 use Rattle.justfile_parse_expression.specs.TableReader.{Read, ReadError, State, accept, expect, leaves}
-use Rattle.justfile_parse_expression.specs.Significant.{TableEntry}
+use Rattle.justfile_parse_expression.specs.Significant.{TableToken}
 use Rattle.justfile_parse_base.specs.Counting.{TookBindingNumbers, counters_of, identifiers_left}
 use Rattle.justfile_parse_base.specs.SharedTable.{next_binding_number}
 use Rattle.justfile_parse_base.proofs.BindingNumbers.{took_both, took_none}
@@ -33,7 +33,7 @@ abbrev Step : Type 0
 Step = (List Leaf × Bool) × Counters
 
 abbrev Taken : Type 0
-Taken = Option (TableEntry × State)
+Taken = Option (TableToken × State)
 
 -- ---- one step of the loop
 
@@ -55,16 +55,16 @@ unfolding after_numbered
 nothing_after before n s = ap (λ (l : List Leaf). Ok ((l, n), s)) (append-nil before)
 
 -- the closing parenthesis, where the names are at their end
-abbrev ended_names : Counters → TableEntry × State → Read Names
+abbrev ended_names : Counters → TableToken × State → Read Names
 ended_names n closer = Ok (([], n), closer.1)
 
-abbrev is_last : Bool → TableEntry × State → Read Bool
+abbrev is_last : Bool → TableToken × State → Read Bool
 is_last last token = Ok (last, token.1)
 
 abbrev with_last : Names → Bool × State → Read Step
 with_last all last = Ok (((all.0, last.0), all.1), last.1)
 
-abbrev ended_step : List Leaf → Counters → TableEntry × State → Read Step
+abbrev ended_step : List Leaf → Counters → TableToken × State → Read Step
 ended_step before n closer = Ok (((before, true), n), closer.1)
 
 module _ (before : List Leaf) where
@@ -83,7 +83,7 @@ module _ (before : List Leaf) where
       after_numbered (name.0.0 ∷ []) (choose (accept kinds.Comma name.1) (parts.names_end leaves name.0.1 name.1) (λ comma. reader.names (name.0.1, comma.1)))
 
   module _ (name : (Leaf × Counters) × State) where
-    closed : (found : Read TableEntry) → after_numbered before (after_numbered (name.0.0 ∷ []) (found >>= ended_names name.0.1))
+    closed : (found : Read TableToken) → after_numbered before (after_numbered (name.0.0 ∷ []) (found >>= ended_names name.0.1))
         ≡ (((found >>= is_last true) >>= with_last (all_before name)) >>= after_step)
     unfolding after_numbered
     closed (Ok closer) = refl
@@ -153,16 +153,16 @@ module _ (s q : State) (first next : Numerator) (done : List (Name × Number)) (
 pub separator_fewer : (s : State) → Fewer {A = Bool} s (separator kinds.ParenR s)
 unfolding separator
 separator_fewer s =
-    either_fewer {A = Bool} kinds.Comma s _ _ (then_fewer {A = TableEntry} {B = Bool} s (expect kinds.ParenR s) _ (expect_fewer kinds.ParenR s) (λ closer. omega arith)) (λ comma. omega arith)
+    either_fewer {A = Bool} kinds.Comma s _ _ (then_fewer {A = TableToken} {B = Bool} s (expect kinds.ParenR s) _ (expect_fewer kinds.ParenR s) (λ closer. omega arith)) (λ comma. omega arith)
 
 -- ---- one name
 
 module _ (old : List (Name × Number)) (first : Numerator) (s : State) where
-  pub name_read : (entry : TableEntry) (rest : State) (name : Name) (number : Number) (next : Numerator) (new : List (Name × Number)) → expect kinds.Identifier s ≡ Ok (entry, rest)
-      → next_binding_number (counters_of first) rest ≡ Ok ((number.0, counters_of next), rest) → name.token ≡ entry.0 → new ≡ old ++ (name, number) ∷ []
+  pub name_read : (table_token : TableToken) (rest : State) (name : Name) (number : Number) (next : Numerator) (new : List (Name × Number)) → expect kinds.Identifier s ≡ Ok (table_token, rest)
+      → next_binding_number (counters_of first) rest ≡ Ok ((number.0, counters_of next), rest) → name.token ≡ table_token.0 → new ≡ old ++ (name, number) ∷ []
       → one_name (numbered_leaves old) (counters_of first) s ≡ Ok ((numbered_leaves new, counters_of next), rest)
   unfolding one_name parts.numbered_name leaves
-  name_read entry rest name number next new taken numbers same is =
-      let all : numbered_leaves new ≡ numbered_leaves old ++ Named entry.0 (Some number) ∷ [] =
+  name_read table_token rest name number next new taken numbers same is =
+      let all : numbered_leaves new ≡ numbered_leaves old ++ Named table_token.0 (Some number) ∷ [] =
       ap numbered_leaves is ∙ map-append numbered_leaf old ((name, number) ∷ []) ∙ ap (λ (t : Token). numbered_leaves old ++ Named t (Some number) ∷ []) same in
       rw (taken, numbers, all) refl

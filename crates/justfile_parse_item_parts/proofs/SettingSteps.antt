@@ -23,7 +23,7 @@ use Rattle.justfile_model.specs.Trees.Tree.{Expr, Exprs}
 use Rattle.justfile_model.specs.declared.level.Level.TheVariants as levels
 use Rattle.justfile_parse_expression.specs.TableReader as table
 use Rattle.justfile_parse_expression.specs.TableReader.{At, Read, ReadExpr, State, accept, accept_keyword, element, enter, expect, is_within, leaves, read}
-use Rattle.justfile_parse_expression.specs.Significant.{TableEntry}
+use Rattle.justfile_parse_expression.specs.Significant.{TableToken}
 use Rattle.justfile_model.proofs.Readers.ExpressionReading.{sequence_is}
 use Rattle.justfile_parse_expression.proofs.Negations.{bare_is}
 use Rattle.justfile_parse_expression.proofs.Operators.{conjunct_is, level_is}
@@ -41,18 +41,18 @@ use Rattle.justfile_parse_base.proofs.RuleSteps.{fails_with}
 -- ---- keywords
 
 -- the keyword that is found
-pub keyword_found : (name : TableEntry) (s : State) (found : Option Keyword) → keyword_named (lexeme_of name.0) ≡ found
+pub keyword_found : (name : TableToken) (s : State) (found : Option Keyword) → keyword_named (lexeme_of name.0) ≡ found
     → reader.setting_keyword name s ≡ parts.keyword_or_none leaves name s found
 unfolding parts.setting_keyword leaves
 keyword_found name s found is = ap (parts.keyword_or_none leaves name s) is
 
-pub keyword_refused : (name : TableEntry) (s : State) → keyword_named (lexeme_of name.0) ≡ None → reader.setting_keyword name s ≡ Err (UnknownSetting name.0)
+pub keyword_refused : (name : TableToken) (s : State) → keyword_named (lexeme_of name.0) ≡ None → reader.setting_keyword name s ≡ Err (UnknownSetting name.0)
 unfolding leaves
 keyword_refused name s none = keyword_found name s None none
 
 -- ---- plain literals
 
-module _ (name : TableEntry) (keyword : Keyword) where
+module _ (name : TableToken) (keyword : Keyword) where
   made_of : (found : ReadExpr)
       → ((found >>= then_made tree.Value) >>= λ value. obeying (value_broken value.1.run.conditions.current views_leaves (Some PlainForm) keyword name.0 value.0) value.1 >>= λ checked. Ok (value.0, checked.1))
       ≡ (found >>= λ e. reader.plain_made e.1.run.conditions.current name.0 keyword e.0 e.1)
@@ -65,17 +65,17 @@ module _ (name : TableEntry) (keyword : Keyword) where
 
 -- ---- forms
 
-module _ (name : TableEntry) (keyword : Keyword) (s : State) where
+module _ (name : TableToken) (keyword : Keyword) (s : State) where
   pub is_none : setting_form keyword ≡ None → reader.setting_value name keyword (setting_form keyword) s ≡ reader.after_operator (reader.no_setting name) s
   unfolding leaves
   is_none h = ap (λ (o : Option SettingForm). reader.setting_value name keyword o s) h
 
   -- the value of a setting, after its name
-  pub plain_read : (operator : TableEntry) (from : State) → expect kinds.ColonEquals s ≡ Ok (operator, from) → (e : Expr Leaf Token) (rest : State) → read (At levels.Expression false from) ≡ Ok (e, rest)
+  pub plain_read : (operator : TableToken) (from : State) → expect kinds.ColonEquals s ≡ Ok (operator, from) → (e : Expr Leaf Token) (rest : State) → read (At levels.Expression false from) ≡ Ok (e, rest)
       → (current : VersionNumbers) → rest.run.conditions.current ≡ current
       → reader.after_operator (reader.plain_value name keyword) s ≡ reader.plain_made current name.0 keyword e rest
   plain_read operator from opened e rest found current is =
-      ap (λ (o : Read TableEntry). o >>= λ operator. reader.plain_value name keyword operator.1) opened
+      ap (λ (o : Read TableToken). o >>= λ operator. reader.plain_value name keyword operator.1) opened
       ∙ plain_is name keyword from
       ∙ ap (λ (o : ReadExpr). o >>= λ e. reader.plain_made e.1.run.conditions.current name.0 keyword e.0 e.1) found
       ∙ ap (λ (v : VersionNumbers). reader.plain_made v name.0 keyword e rest) is
@@ -87,19 +87,19 @@ abbrev first_refused : State → ReadExpr
 first_refused s = cond (is_within levels.Expression s) (Err (refused Unexpected s)) (Err (refused TooDeep s))
 
 -- where the closing bracket comes next
-module _ (t : TableEntry) (closes : t.0.kind ≡ kinds.BracketR) where
+module _ (t : TableToken) (closes : t.0.kind ≡ kinds.BracketR) where
   module _ (kind : TokenKind) (other : reading.same_kind kinds.BracketR kind ≡ false) where
     unlike : reading.same_kind t.0.kind kind ≡ false
     unlike = ap (λ (k : TokenKind). reading.same_kind k kind) closes ∙ other
 
     not_taken : (rest : State) → accept kind (with_next t rest) ≡ None
     unfolding reading.accept leaves
-    not_taken rest = ap (λ (b : Bool). cond {A = Option (TableEntry × State)} b (Some (t, rest)) None) unlike
+    not_taken rest = ap (λ (b : Bool). cond {A = Option (TableToken × State)} b (Some (t, rest)) None) unlike
 
   no_condition : (rest : State) → accept_keyword (codes "if") (with_next t rest) ≡ None
   unfolding reading.accept_keyword leaves reading.is_word reading.same_kind
   no_condition rest =
-      ap (λ (b : Bool). cond {A = Option (TableEntry × State)} (b && bytes_eq (lexeme_of t.0) (codes "if")) (Some (t, rest)) None) (unlike kinds.Identifier refl)
+      ap (λ (b : Bool). cond {A = Option (TableToken × State)} (b && bytes_eq (lexeme_of t.0) (codes "if")) (Some (t, rest)) None) (unlike kinds.Identifier refl)
 
   no_operand : (rest : State) → read (At levels.Conjunct false (with_next t rest)) ≡ Err (refused Unexpected (with_next t rest))
   unfolding reading.same_kind
@@ -147,14 +147,14 @@ module _ (first : State) where
   commanded (Err f) = refl
 
   -- without a command
-  no_command : (t : TableEntry) (ts : List TableEntry) → first.left ≡ t ∷ ts → t.0.kind ≡ kinds.BracketR → parts.some_command leaves first (tree.none, at first ts) ≡ reader.command_from first
+  no_command : (t : TableToken) (ts : List TableToken) → first.left ≡ t ∷ ts → t.0.kind ≡ kinds.BracketR → parts.some_command leaves first (tree.none, at first ts) ≡ reader.command_from first
   unfolding reader.command_from expressions.element_rule leaves
   no_command t ts split closes =
       by_depth (is_within levels.Expression first)
       ∙ sym (ap (λ (f : ReadExpr). (f >>= after_element) >>= λ command. reader.command_end command.0.0 command.0.1 command.1) found)
     where
       found : read (At levels.Expression false first) ≡ first_refused first
-      found = subst (λ (l : List TableEntry). read (At levels.Expression false (at first l)) ≡ first_refused (at first l)) (sym split) (no_expression t closes (at first ts))
+      found = subst (λ (l : List TableToken). read (At levels.Expression false (at first l)) ≡ first_refused (at first l)) (sym split) (no_expression t closes (at first ts))
 
       by_depth : (b : Bool) → cond {A = Read LeafValue} b (Err (refused Unexpected first)) (Err (refused TooDeep first))
           ≡ ((cond {A = ReadExpr} b (Err (refused Unexpected first)) (Err (refused TooDeep first)) >>= after_element) >>= λ command. reader.command_end command.0.0 command.0.1 command.1)
@@ -166,13 +166,13 @@ module _ (first : State) where
   unfolding reader.command_from reading.accept reading.same_kind leaves
   bracketed = ap (λ (o : Read (Exprs Leaf Token)). o >>= parts.some_command leaves first) (sequence_by first) ∙ go first.left refl
     where
-      met : (t : TableEntry) (ts : List TableEntry) → first.left ≡ t ∷ ts → (b : Bool) → reading.same_kind t.0.kind kinds.BracketR ≡ b
+      met : (t : TableToken) (ts : List TableToken) → first.left ≡ t ∷ ts → (b : Bool) → reading.same_kind t.0.kind kinds.BracketR ≡ b
           → (choose {X = Read (Exprs Leaf Token)} (cond b (Some (t, at first ts)) None) (element kinds.BracketR first >>= by_element) (λ x. Ok (tree.none, x.1)) >>= parts.some_command leaves first)
           ≡ reader.command_from first
       met t ts split true is = no_command t ts split (same_true the_type tt _ _ is)
       met t ts split false is = commanded (element kinds.BracketR first)
 
-      go : (l : List TableEntry) → first.left ≡ l
+      go : (l : List TableToken) → first.left ≡ l
           → (choose {X = Read (Exprs Leaf Token)} (reading.accept_by leaves (λ t. reading.same_kind t.tok.kind kinds.BracketR) first l) (element kinds.BracketR first >>= by_element) (λ x. Ok (tree.none, x.1))
           >>= parts.some_command leaves first)
           ≡ reader.command_from first
@@ -184,7 +184,7 @@ unfolding parts.interpreter
 interpreter_is s = bind_alike (expect kinds.BracketL s) _ _ (λ opener. bracketed opener.1)
 
 -- a keyword isn't the name of a setting
-pub no_setting_fails : (name : TableEntry) (s : State) (operator : TableEntry) (from : State) (error : ParseError) (fault : Fault)
+pub no_setting_fails : (name : TableToken) (s : State) (operator : TableToken) (from : State) (error : ParseError) (fault : Fault)
     → expect kinds.ColonEquals s ≡ Ok (operator, from) → IsErrorOfFault error fault → IsFaultOfRead (UnknownSetting name.0) fault
     → IsParseError error from ⊥ (reader.after_operator (reader.no_setting name) s)
 no_setting_fails name s operator from error fault found h k = rw found (fails_with (LeafValue × State) (UnknownSetting name.0) fault error from h k)

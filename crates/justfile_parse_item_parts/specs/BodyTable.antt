@@ -7,7 +7,7 @@ use Rattle.justfile_model.specs.Trees.Tree as tree
 use Rattle.justfile_model.specs.Trees.Tree.{BodyLine, Fragment}
 use Rattle.justfile_vocabulary.specs.declared.token_kind.TokenKind.TheVariants as kinds
 use Rattle.justfile_expression.specs.LeafTree.{Leaf}
-use Rattle.justfile_parse_expression.specs.Significant.{TableEntry}
+use Rattle.justfile_parse_expression.specs.Significant.{TableToken}
 use Rattle.justfile_parse_expression.specs.TableReader.{Read, State, enclosed, expect, leaves}
 
 abbrev pub fragment : State → Read (Fragment Leaf Token)
@@ -42,12 +42,12 @@ body = files.body leaves
 abbrev pub CommentedBody : Type 0
 CommentedBody = files.CommentedBody leaves
 
-abbrev pub body_after : (comment : Option TableEntry) → State → Read CommentedBody
+abbrev pub body_after : (comment : Option TableToken) → State → Read CommentedBody
 body_after = files.body_after leaves
 
 abbrev pub optional_body : State → Read CommentedBody
 optional_body = files.optional_body leaves
 
--- the line that the next entry begins on
-abbrev pub line_at : List TableEntry → ℕ
+-- the line that the next token begins on
+abbrev pub line_at : List TableToken → ℕ
 line_at = files.line_at leaves

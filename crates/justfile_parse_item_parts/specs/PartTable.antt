@@ -16,7 +16,7 @@ use Rattle.justfile_model.specs.Trees.Tree as tree
 use Rattle.justfile_model.specs.Trees.Tree.{Expr, Quoted, SettingValue}
 use Rattle.justfile_parse_base.specs.SharedTable.{separator, view_of}
 use Rattle.justfile_parse_expression.specs.TableReader.{Read, Sequence, State, accept, element, expect, leaves, next_are, read}
-use Rattle.justfile_parse_expression.specs.Significant.{TableEntry}
+use Rattle.justfile_parse_expression.specs.Significant.{TableToken}
 use Rattle.justfile_parse_item_parts.specs.declared.lookahead.Lookahead.{Lookahead}
 use Rattle.justfile_parse_item_parts.specs.declared.lookahead.Lookahead.TheVariants as followings
 use Rattle.justfile_expression.specs.LeafViews.{views_leaves}
@@ -27,7 +27,7 @@ use Rattle.justfile_expression.specs.LeafTree.{Leaf, Literal, literal_of}
 abbrev pub line_is : List TokenKind → State → Bool
 line_is = parts.line_is leaves
 
-abbrev pub accept_keyword_before : List ℕ → (follows : State → Bool) → State → Option (TableEntry × State)
+abbrev pub accept_keyword_before : List ℕ → (follows : State → Bool) → State → Option (TableToken × State)
 accept_keyword_before = parts.accept_keyword_before leaves
 
 abbrev pub peek_assignment : State → Bool
@@ -91,7 +91,7 @@ follows_past followings.Set s = assigned_past s || line_past s
 abbrev pub expansion_mark : State → Read Bool
 expansion_mark = parts.expansion_mark leaves
 
-abbrev pub file_path : State → Read (TableEntry × Quoted Leaf)
+abbrev pub file_path : State → Read (TableToken × Quoted Leaf)
 file_path = parts.file_path leaves
 
 abbrev pub optional_path : State → Read (Option (Quoted Leaf))
@@ -126,10 +126,10 @@ names_step before n s =
 abbrev pub LeafValue : Type 0
 LeafValue = SettingValue Leaf Token
 
-abbrev pub setting_keyword : TableEntry → State → Read Keyword
+abbrev pub setting_keyword : TableToken → State → Read Keyword
 setting_keyword = parts.setting_keyword leaves
 
-abbrev pub truth_of : TableEntry × State → Read LeafValue
+abbrev pub truth_of : TableToken × State → Read LeafValue
 truth_of = parts.truth_of leaves
 
 abbrev pub truth : State → Read LeafValue
@@ -141,10 +141,10 @@ interpreter = parts.interpreter leaves
 abbrev pub expression_value : State → Read LeafValue
 expression_value = parts.expression_value leaves
 
-abbrev pub plain_value : TableEntry → Keyword → State → Read LeafValue
+abbrev pub plain_value : TableToken → Keyword → State → Read LeafValue
 plain_value name keyword = parts.plain_value leaves view_of name keyword
 
-abbrev pub setting_value : TableEntry → Keyword → Option SettingForm → State → Read LeafValue
+abbrev pub setting_value : TableToken → Keyword → Option SettingForm → State → Read LeafValue
 setting_value name keyword = parts.setting_value leaves view_of name keyword
 
 -- `:=`, and what is read after it
@@ -154,7 +154,7 @@ after_operator next s = do
   next operator.1
 
 -- the read error for a keyword that isn't the name of a setting
-abbrev pub no_setting : TableEntry → State → Read LeafValue
+abbrev pub no_setting : TableToken → State → Read LeafValue
 no_setting name s = Err (UnknownSetting name.0)
 
 -- what follows a command, which has no arguments if it is the last element

@@ -9,13 +9,13 @@ use Rattle.justfile_numbers.specs.declared.number.Number.{Number}
 use Rattle.justfile_token.specs.declared.string_literal.StringLiteral.{StringLiteral}
 use Rattle.justfile_model.specs.Trees.Tree as tree
 use Rattle.justfile_model.specs.Trees.Tree.{Quoted}
-use Rattle.justfile_parse_expression.specs.Significant.{TableEntry}
+use Rattle.justfile_parse_expression.specs.Significant.{TableToken}
 use Rattle.justfile_parse_item_parts.specs.PartTable.{LeafValue}
 use Rattle.justfile_expression.specs.LeafTree.{Leaf, Named, leaf_tree_of, trees_of}
 use Rattle.justfile_expression.specs.declared.expression.Expression.{Expression}
 
 -- the path of a file, with the token of its literal
-abbrev pub file_path_tree : TableEntry × StringLiteral → TableEntry × Quoted Leaf
+abbrev pub file_path_tree : TableToken × StringLiteral → TableToken × Quoted Leaf
 file_path_tree path = (path.0, quoted_leaf path.1)
 
 abbrev pub optional_path_tree : Option StringLiteral → Option (Quoted Leaf)

@@ -90,12 +90,12 @@ fn parse_mark<'src, X: Expander>(
 fn expect_string<'run, 'src, X: Expander>(
     parser: &mut ParserState<'run, 'src, X>,
 ) -> Result<&'run SignificantToken<'src>, ExpressionError<'src>>
-    ensures reads { Parses X.answer (λ entry. entry.now) result parser.old parser.new
+    ensures reads { Parses X.answer (λ table_token. table_token.now) result parser.old parser.new
         (table.expect kinds.StringToken) }
-    ensures entry { IfOk result (λ entry. IsOf kinds.StringToken entry.now) }
+    ensures table_token { IfOk result (λ table_token. IsOf kinds.StringToken table_token.now) }
 {
     match parser.accept(TokenKind::StringToken) {
-        Some(entry) => Ok(entry),
+        Some(table_token) => Ok(table_token),
         None => Err(ExpressionError::Refused(SyntaxError::Unexpected)),
     }
 }

@@ -1,7 +1,7 @@
 //! The keywords that items begin with. A keyword is an ordinary name unless what follows it fits.
 ghost use Rattle.std.specs.Prelude.{◌≡◌};
 ghost use Rattle.justfile_vocabulary.specs.Keyword.{keyword_text};
-ghost use Rattle.justfile_parse_expression.specs.MethodResults.{TakesEntry};
+ghost use Rattle.justfile_parse_expression.specs.MethodResults.{TakesTableToken};
 ghost use Rattle.justfile_parse_expression.specs.View.{Moves, state_of};
 ghost use Rattle.justfile_parse_item_parts.specs.PartTable as reader;
 
@@ -31,7 +31,7 @@ pub fn accept_keyword_before<'run, 'src, X: Expander>(
     keyword: Keyword,
     lookahead: Lookahead,
 ) -> Option<&'run SignificantToken<'src>>
-    ensures takes { TakesEntry result (state_of X.answer parser.new) (reader.accept_keyword_before
+    ensures takes { TakesTableToken result (state_of X.answer parser.new) (reader.accept_keyword_before
         (keyword_text keyword) (reader.follows lookahead) (state_of X.answer parser.old)) }
     ensures moves { Moves result parser.old parser.new }
 {

@@ -13,7 +13,7 @@ use Rattle.justfile_numbers.specs.declared.numerator.Numerator.{Numerator}
 use Rattle.justfile_model.specs.Grammars.Conditions.{Conditions}
 use Rattle.justfile_model.specs.Lexing.Lexed.{Lexed}
 use Rattle.justfile_model.specs.Lexing.LexResult.{IsFrom}
-use Rattle.justfile_model.specs.Lexing.SignificantTokens.{TableEntry, significant_of}
+use Rattle.justfile_model.specs.Lexing.SignificantTokens.{TableToken, significant_of}
 use Rattle.justfile_model.specs.Lexing.Tok.{tok_of}
 use Rattle.justfile_model.specs.Readers.TreeReader as model
 use Rattle.justfile_model.specs.Trees.Tree.{lexeme}
@@ -22,7 +22,7 @@ use Rattle.justfile_ast.specs.declared.ast.Ast.{Ast}
 use Rattle.justfile_chunks_grammar.specs.Chunks.{text_of}
 use Rattle.justfile_chunks.proofs.ChunkTokens.{whole_is}
 use Rattle.justfile_lex.specs.SignificantTable.{IsTableOf}
-use Rattle.justfile_lex.proofs.TableLemmas.{entries_among}
+use Rattle.justfile_lex.proofs.TableLemmas.{table_tokens_among}
 use Rattle.justfile_parse_item.specs.Filled.{IsFilledItem, IsInTable}
 use Rattle.justfile_parse_file.specs.MethodResults.{IsReadFile}
 use Rattle.justfile_parse_file.proofs.Parsed.{given_weaker, in_tokens, read_derives}
@@ -40,7 +40,7 @@ single [] e = absurd (omega (arith, e))
 single (x ∷ []) e = record { element = x; is = refl }
 single (x ∷ y ∷ xs) e = absurd (omega (arith, e))
 
-module _ (conditions : Conditions) (path src : List ℕ) (utf8 : IsUtf8 src) (table after : List TableEntry) (t : IsTableOf path src table)
+module _ (conditions : Conditions) (path src : List ℕ) (utf8 : IsUtf8 src) (table after : List TableToken) (t : IsTableOf path src table)
     (off : IsCutOff (map tok_of t.tokens) (map significant_of after)) (less : after ≡ remove table (length table - 2)) (source : Source) (old new : Numerator) where
   byte : Single off.next.lexeme
   byte = single off.next.lexeme off.one_byte
@@ -53,8 +53,8 @@ module _ (conditions : Conditions) (path src : List ℕ) (utf8 : IsUtf8 src) (ta
   tokens_from : (token : Token) → IsInTable after token → IsFrom path src token
   tokens_from token among =
       All-contains (IsFrom path src) t.tokens token t.sources
-      (in_tokens t.tokens after (subst (λ es. All (λ entry. Contains t.tokens entry.0) es) (sym less)
-      (each_but_one (λ (entry : TableEntry). Contains t.tokens entry.0) table (length table - 2) (entries_among t.tokens table t.significant))) token among)
+      (in_tokens t.tokens after (subst (λ es. All (λ table_token. Contains t.tokens table_token.0) es) (sym less)
+      (each_but_one (λ (table_token : TableToken). Contains t.tokens table_token.0) table (length table - 2) (table_tokens_among t.tokens table t.significant))) token among)
 
   part_of : (ast : Ast) → IsReadFile conditions after source old new ast → IsPart conditions path src source.file_depth source.import_offsets.now ast
   part_of ast file = record {
@@ -70,7 +70,7 @@ module _ (conditions : Conditions) (path src : List ℕ) (utf8 : IsUtf8 src) (ta
       text_is = refl;
       cut = off.cut;
       derives =
-          read_derives conditions _ file.read.written (tree_of ast) (features_of ast) (sym (ap (model.tree_of_tokens conditions) off.entries_are) ∙ file.read.read) file.read.ordered_is;
+          read_derives conditions _ file.read.written (tree_of ast) (features_of ast) (sym (ap (model.tree_of_tokens conditions) off.significant_are) ∙ file.read.read) file.read.ordered_is;
     };
     given =
         All-weaker (IsFilledItem conditions.expander (IsInTable after) source.file_depth source.import_offsets.now)

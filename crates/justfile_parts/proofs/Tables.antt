@@ -8,7 +8,7 @@ use Rattle.std.proofs.lemmas.List.Elements.{All-append, All-drop, All-take}
 use Rattle.std.proofs.lemmas.List.Folds.{list_all-append}
 use Rattle.std.proofs.lemmas.Str.{IsUtf8-from_ascii}
 use Rattle.justfile_vocabulary.specs.declared.token_kind.TokenKind.TheVariants as kinds
-use Rattle.justfile_model.specs.Lexing.SignificantTokens.{SignificantToken, TableEntry, is_whitespace, significant_from, significant_of, significant_tokens}
+use Rattle.justfile_model.specs.Lexing.SignificantTokens.{SignificantToken, TableToken, is_whitespace, significant_from, significant_of, significant_tokens}
 use Rattle.justfile_model.specs.Lexing.Tok.{Tok, tok_of}
 use Rattle.justfile_lex.specs.SignificantTable.{IsTableOf}
 use Rattle.justfile_round_trip.proofs.LiteralTexts.FormatParts.{are_inside}
@@ -68,7 +68,7 @@ module _ (n e : Tok) (seen : is_whitespace n.kind ≡ false) (end : e.kind ≡ k
       by true same next h = same h
       by false same next h = (h.0, format_cut t ts true h.1, next h.2)
 
--- ---- an entry less
+-- ---- a token less
 
 all_taken : {X : Type 0} (f : X → Bool) (xs : List X) (n : ℕ) → list_all f xs ≡ true → list_all f (take n xs) ≡ true
 all_taken f xs zero h = refl
@@ -88,13 +88,13 @@ each_but_one P xs n h = All-append P (take n xs) (drop (suc n) xs) (All-take P n
 
 -- ---- the table
 
-module _ (path src : List ℕ) (utf8 : IsUtf8 src) (table after : List TableEntry) (t : IsTableOf path src table) (off : IsCutOff (map tok_of t.tokens) (map significant_of after))
+module _ (path src : List ℕ) (utf8 : IsUtf8 src) (table after : List TableToken) (t : IsTableOf path src table) (off : IsCutOff (map tok_of t.tokens) (map significant_of after))
     (less : after ≡ remove table (length table - 2)) where
   abbrev left : List Tok
   left = off.part ++ (off.end ∷ [])
 
   some : 0 < length after
-  some = omega (arith, some_significant false off.part off.end off.is_end, ap length off.entries_are, length-map after significant_of)
+  some = omega (arith, some_significant false off.part off.end off.is_end, ap length off.significant_are, length-map after significant_of)
 
   sound : IsTrue (list_all is_sound after)
   sound =
@@ -103,7 +103,7 @@ module _ (path src : List ℕ) (utf8 : IsUtf8 src) (table after : List TableEntr
 
   ended : AreEnded (map significant_of after)
   ended =
-      subst AreEnded (sym off.entries_are)
+      subst AreEnded (sym off.significant_are)
       (inside_ended (significant_tokens left) (are_inside outside false (significant_tokens left)
       (sound_cut off.next off.end off.seen off.is_end off.is_empty off.part outside false false
       (subst (λ ts. Sound outside false (significant_from false ts)) off.tokens_are (lexed_sound src (map tok_of t.tokens) utf8 t.lexed)))))

@@ -12,7 +12,7 @@ use justfile_token::{Expander, Source};
 use std::alloc::Global;
 
 /// Parses what is before the last byte of a text, under a limit as for `Parser::parse`. Returns
-/// `None` if the text isn't cut before that byte, what is before it is refused, or memory runs out.
+/// `None` if the text isn't cut before that byte, what is before it is rejected, or memory runs out.
 pub fn parse_part<'src, X: Expander>(
     alloc: Global,
     path: &'src str,

@@ -13,9 +13,9 @@ use Rattle.justfile_model.specs.Grammars.Features.{Noted, uncompared}
 use Rattle.justfile_model.specs.Grammars.Expressions as g
 use Rattle.justfile_model.specs.Grammars.Expressions.{Tokens, BelowLimit, ends_open, NotNext, IsWord, NotWord, IsMarked, NotMarked, Unmarked, NotCompared, NotJoined, Expression, Disjunct, Compared, Conjunct, Condition, Braced, Conditional, Value, Sequence, FormatParts}
 use Rattle.justfile_model.specs.Printed.Printing.{is_conditional}
-use Rattle.justfile_round_trip.proofs.LiteralTexts.LexedModes.{Mark, mark, placed}
+use Rattle.justfile_round_trip.proofs.LiteralTexts.LexedModes.{Sign, sign, placed}
 use Rattle.justfile_round_trip.proofs.Canon as canon
-use Rattle.justfile_round_trip.proofs.Canon.{Shown, Values, ShapeParts, space, word, brace_left, brace_right, paren_right, expr_marks, exprs_marks, others_marks, parts_marks}
+use Rattle.justfile_round_trip.proofs.Canon.{Shown, Values, ShapeParts, space, word, brace_left, brace_right, paren_right, expr_signs, exprs_signs, others_signs, parts_signs}
 use Rattle.justfile_round_trip.proofs.Good.{significant, closes, ends_value}
 use Rattle.justfile_round_trip.proofs.Ends.{End, OfName, OfValue, OfOpen, OfClosed, tail, EndsIn, ValueEndsIn, SameHead, same_head, value_head, expression_head}
 
@@ -111,23 +111,23 @@ value_before OfValue ts h = record { is = tt }
 value_before _ ts h = record { is = tt }
 
 -- `)` or `]`
-abbrev closer : (paren : Bool) → Mark
+abbrev closer : (paren : Bool) → Sign
 closer true = paren_right
-closer false = mark kinds.BracketR (codes "]")
+closer false = sign kinds.BracketR (codes "]")
 
-closer_stop : (p : Bool) (on : List Mark) → StopE (significant true (closer p ∷ on))
+closer_stop : (p : Bool) (on : List Sign) → StopE (significant true (closer p ∷ on))
 closer_stop true on = stop_before _ _ refl
 closer_stop false on = stop_before _ _ refl
 
-closer_ends : (x : End) (p : Bool) (on : List Mark) → EndsIn x (significant true (closer p ∷ on))
+closer_ends : (x : End) (p : Bool) (on : List Sign) → EndsIn x (significant true (closer p ∷ on))
 closer_ends x true on = ends_before x _ _ refl
 closer_ends x false on = ends_before x _ _ refl
 
-parts_stop : (ps : ShapeParts) (on : List Mark) → StopE (significant false (parts_marks ps on))
+parts_stop : (ps : ShapeParts) (on : List Sign) → StopE (significant false (parts_signs ps on))
 parts_stop (tree.Last t) on = stop_before _ _ refl
 parts_stop (tree.Continue t e ps) on = stop_before _ _ refl
 
-parts_ends : (x : End) (ps : ShapeParts) (on : List Mark) → EndsIn x (significant false (parts_marks ps on))
+parts_ends : (x : End) (ps : ShapeParts) (on : List Sign) → EndsIn x (significant false (parts_signs ps on))
 parts_ends x (tree.Last t) on = ends_before x _ _ refl
 parts_ends x (tree.Continue t e ps) on = ends_before x _ _ refl
 
@@ -154,14 +154,14 @@ word_head w (same_head e f g b) h = λ i. h (record { is_name = e ∙ i.is_name;
 
 -- ---- conditionals
 
-abbrev following : List Mark → List Mark
+abbrev following : List Sign → List Sign
 following [] = []
 following (t ∷ ts) = ts
 
 abbrev if_token : Bool → SignificantToken
 if_token b = record { tok = placed (word (codes "if")) 0 0 0; glued = b }
 
-if_first : (o : canon.Value) (on : List Mark) (b : Bool) → is_conditional o ≡ true → significant b (expr_marks o on) ≡ if_token b ∷ significant true (following (expr_marks o on))
+if_first : (o : canon.Value) (on : List Sign) (b : Bool) → is_conditional o ≡ true → significant b (expr_signs o on) ≡ if_token b ∷ significant true (following (expr_signs o on))
 if_first (tree.If c t) on b h = refl
 if_first (tree.IfElse c t o) on b h = refl
 if_first _ on b h = cc
@@ -178,7 +178,7 @@ no_else false h e = cc
 pub is_word : (w : List ℕ) {b : Bool} → IsWord w (record { tok = placed (word w) 0 0 0; glued = b })
 is_word w = record { is_name = refl; spelled = refl }
 
-is_marked : (w : List ℕ) (kind : TokenKind) (l : List ℕ) {b : Bool} → IsMarked w kind (record { tok = placed (word w) 0 0 0; glued = b }) (record { tok = placed (mark kind l) 0 0 0; glued = true })
+is_marked : (w : List ℕ) (kind : TokenKind) (l : List ℕ) {b : Bool} → IsMarked w kind (record { tok = placed (word w) 0 0 0; glued = b }) (record { tok = placed (sign kind l) 0 0 0; glued = true })
 is_marked w kind l = record { marks = is_word w; is_string = refl; glued = refl }
 
 -- the features of no expressions are none
@@ -209,72 +209,72 @@ module _ (MayEnter MayEnter' : ℕ → Option SignificantToken → Type 0) (fewe
   value_joined (g.variable kind no_assert unmarked next) h = (record { is = h.is.0 }, h.is.1)
   value_joined _ h = (record { is = tt }, h.is.1)
 
-  end_none : (p : Bool) (d : ℕ) (b : Bool) (on : List Mark) → Sequence lexeme nothing MayEnter' (closer p).kind d tree.none [] (significant b (closer p ∷ on)) (significant true on)
+  end_none : (p : Bool) (d : ℕ) (b : Bool) (on : List Sign) → Sequence lexeme nothing MayEnter' (closer p).kind d tree.none [] (significant b (closer p ∷ on)) (significant true on)
   end_none true d b on = g.none refl
   end_none false d b on = g.none refl
 
-  end_last : (p : Bool) (d : ℕ) (e : canon.Value) (fs : Shown) (ts : Tokens) (on : List Mark) → NotNext (closer p).kind ts → Expression lexeme nothing MayEnter' false d e fs ts (significant true (closer p ∷ on))
+  end_last : (p : Bool) (d : ℕ) (e : canon.Value) (fs : Shown) (ts : Tokens) (on : List Sign) → NotNext (closer p).kind ts → Expression lexeme nothing MayEnter' false d e fs ts (significant true (closer p ∷ on))
       → Sequence lexeme nothing MayEnter' (closer p).kind d (tree.more e tree.none) fs ts (significant true on)
   end_last true d e fs ts on next h = g.last next h refl
   end_last false d e fs ts on next h = g.last next h refl
 
   -- an element and those after it
-  joined : (p : Bool) (d : ℕ) (e : canon.Value) (es : Values) (fs gs : Shown) (on : List Mark) (b : Bool) → NotNext (closer p).kind (significant b (expr_marks e (others_marks es (closer p ∷ on))))
-      → ((on' : List Mark) → EndsIn (tail e) (significant true on') → StopE (significant true on') → Expression lexeme nothing MayEnter' false d e fs (significant b (expr_marks e on')) (significant true on'))
-      → Sequence lexeme nothing MayEnter' (closer p).kind d es gs (significant false (exprs_marks es (closer p ∷ on))) (significant true on)
-      → Sequence lexeme nothing MayEnter' (closer p).kind d (tree.more e es) (fs ++ gs) (significant b (expr_marks e (others_marks es (closer p ∷ on)))) (significant true on)
+  joined : (p : Bool) (d : ℕ) (e : canon.Value) (es : Values) (fs gs : Shown) (on : List Sign) (b : Bool) → NotNext (closer p).kind (significant b (expr_signs e (others_signs es (closer p ∷ on))))
+      → ((on' : List Sign) → EndsIn (tail e) (significant true on') → StopE (significant true on') → Expression lexeme nothing MayEnter' false d e fs (significant b (expr_signs e on')) (significant true on'))
+      → Sequence lexeme nothing MayEnter' (closer p).kind d es gs (significant false (exprs_signs es (closer p ∷ on))) (significant true on)
+      → Sequence lexeme nothing MayEnter' (closer p).kind d (tree.more e es) (fs ++ gs) (significant b (expr_signs e (others_signs es (closer p ∷ on)))) (significant true on)
   joined p d e tree.none fs gs on b next f q =
-      subst (λ x. Sequence lexeme nothing MayEnter' (closer p).kind d (tree.more e tree.none) x (significant b (expr_marks e (closer p ∷ on))) (significant true on)) (sym (append-nil fs) ∙ ap (λ x. fs ++ x) (sym (no_features q)))
+      subst (λ x. Sequence lexeme nothing MayEnter' (closer p).kind d (tree.more e tree.none) x (significant b (expr_signs e (closer p ∷ on))) (significant true on)) (sym (append-nil fs) ∙ ap (λ x. fs ++ x) (sym (no_features q)))
       (end_last p d e fs _ on next (f (closer p ∷ on) (closer_ends (tail e) p on) (closer_stop p on)))
-  joined p d e (tree.more e2 es) fs gs on b next f q = g.more next (f (others_marks (tree.more e2 es) (closer p ∷ on)) (ends_before (tail e) _ _ refl) (stop_before _ _ refl)) refl q
+  joined p d e (tree.more e2 es) fs gs on b next f q = g.more next (f (others_signs (tree.more e2 es) (closer p ∷ on)) (ends_before (tail e) _ _ refl) (stop_before _ _ refl)) refl q
 
   -- both ways to print another branch
-  branched : (d : ℕ) (w : SignificantToken) (c t o : canon.Value) (cs bs os : Shown) (on : List Mark) (b : Bool) → is_conditional o ≡ b
-      → ((on' : List Mark) → EndsIn (tail c) (significant true on') → StopE (significant true on') → Condition lexeme nothing MayEnter' d c cs (significant false (expr_marks c on')) (significant true on'))
-      → ((on' : List Mark) → Braced lexeme nothing MayEnter' d t bs (significant false (brace_left ∷ space ∷ expr_marks t (space ∷ brace_right ∷ on'))) (significant true on'))
-      → (is_conditional o ≡ false → Braced lexeme nothing MayEnter' d o os (significant false (brace_left ∷ space ∷ expr_marks o (space ∷ brace_right ∷ on))) (significant true on))
-      → (is_conditional o ≡ true → Conditional lexeme nothing MayEnter' d (if_token false) o os (significant true (following (expr_marks o on))) (significant true on))
+  branched : (d : ℕ) (w : SignificantToken) (c t o : canon.Value) (cs bs os : Shown) (on : List Sign) (b : Bool) → is_conditional o ≡ b
+      → ((on' : List Sign) → EndsIn (tail c) (significant true on') → StopE (significant true on') → Condition lexeme nothing MayEnter' d c cs (significant false (expr_signs c on')) (significant true on'))
+      → ((on' : List Sign) → Braced lexeme nothing MayEnter' d t bs (significant false (brace_left ∷ space ∷ expr_signs t (space ∷ brace_right ∷ on'))) (significant true on'))
+      → (is_conditional o ≡ false → Braced lexeme nothing MayEnter' d o os (significant false (brace_left ∷ space ∷ expr_signs o (space ∷ brace_right ∷ on))) (significant true on))
+      → (is_conditional o ≡ true → Conditional lexeme nothing MayEnter' d (if_token false) o os (significant true (following (expr_signs o on))) (significant true on))
       → (ends_open o ≡ true → NotWord (codes "else") (significant true on))
       → Conditional lexeme nothing MayEnter' d w (tree.IfElse c t o) (cs ++ bs ++ os)
-      (significant false (expr_marks c (space ∷ brace_left ∷ space ∷ expr_marks t (space ∷ brace_right ∷ space ∷ word (codes "else") ∷ space
-      ∷ cond b (expr_marks o on) (brace_left ∷ space ∷ expr_marks o (space ∷ brace_right ∷ on)))))) (significant true on)
+      (significant false (expr_signs c (space ∷ brace_left ∷ space ∷ expr_signs t (space ∷ brace_right ∷ space ∷ word (codes "else") ∷ space
+      ∷ cond b (expr_signs o on) (brace_left ∷ space ∷ expr_signs o (space ∷ brace_right ∷ on)))))) (significant true on)
   branched d w c t o cs bs os on false is fc ft fb fo next =
       g.if_else (fc _ (ends_before (tail c) _ _ refl) (stop_before _ _ refl)) (ft _) (is_word (codes "else")) (fb is) next
   branched d w c t o cs bs os on true is fc ft fb fo next =
-      let first : significant false (expr_marks o on) ≡ if_token false ∷ significant true (following (expr_marks o on)) = if_first o on false is in
+      let first : significant false (expr_signs o on) ≡ if_token false ∷ significant true (following (expr_signs o on)) = if_first o on false is in
       let else_token : SignificantToken = record { tok = placed (word (codes "else")) 0 0 0; glued = false } in
-      let B : Tokens → Type 0 = λ s. Braced lexeme nothing MayEnter' d t bs (significant false (brace_left ∷ space ∷ expr_marks t (space ∷ brace_right ∷ space ∷ word (codes "else") ∷ space ∷ expr_marks o on))) (else_token ∷ s) in
-      g.else_if (fc _ (ends_before (tail c) _ _ refl) (stop_before _ _ refl)) (subst B first (ft (space ∷ word (codes "else") ∷ space ∷ expr_marks o on))) (is_word (codes "else")) (is_word (codes "if")) (fo is)
+      let B : Tokens → Type 0 = λ s. Braced lexeme nothing MayEnter' d t bs (significant false (brace_left ∷ space ∷ expr_signs t (space ∷ brace_right ∷ space ∷ word (codes "else") ∷ space ∷ expr_signs o on))) (else_token ∷ s) in
+      g.else_if (fc _ (ends_before (tail c) _ _ refl) (stop_before _ _ refl)) (subst B first (ft (space ∷ word (codes "else") ∷ space ∷ expr_signs o on))) (is_word (codes "else")) (is_word (codes "if")) (fo is)
 
-  put_if : {d d' : ℕ} {w : SignificantToken} {e : canon.Value} {fs gs : Shown} {ts rest : Tokens} → Conditional lexeme nothing MayEnter d w e fs ts rest → (b : Bool) (on : List Mark)
-      → Conditional lexeme nothing MayEnter' d' (if_token b) e gs (significant true (following (expr_marks e on))) (significant true on) → Conjunct lexeme nothing MayEnter' d' e gs (significant b (expr_marks e on)) (significant true on)
+  put_if : {d d' : ℕ} {w : SignificantToken} {e : canon.Value} {fs gs : Shown} {ts rest : Tokens} → Conditional lexeme nothing MayEnter d w e fs ts rest → (b : Bool) (on : List Sign)
+      → Conditional lexeme nothing MayEnter' d' (if_token b) e gs (significant true (following (expr_signs e on))) (significant true on) → Conjunct lexeme nothing MayEnter' d' e gs (significant b (expr_signs e on)) (significant true on)
   put_if (g.if_only c x next) b on q = g.conditional (is_word (codes "if")) q
   put_if _ b on q = g.conditional (is_word (codes "if")) q
 
   mutual
-    pub expression_back : {condition : Bool} {d : ℕ} {e : canon.Value} {fs : Shown} {ts rest : Tokens} → Expression lexeme nothing MayEnter condition d e fs ts rest → (d' : ℕ) → d' ≤ d → (b : Bool) (on : List Mark) → EndsIn (tail e) (significant true on) → StopE (significant true on)
-        → Expression lexeme nothing MayEnter' condition d' e fs (significant b (expr_marks e on)) (significant true on)
+    pub expression_back : {condition : Bool} {d : ℕ} {e : canon.Value} {fs : Shown} {ts rest : Tokens} → Expression lexeme nothing MayEnter condition d e fs ts rest → (d' : ℕ) → d' ≤ d → (b : Bool) (on : List Sign) → EndsIn (tail e) (significant true on) → StopE (significant true on)
+        → Expression lexeme nothing MayEnter' condition d' e fs (significant b (expr_signs e on)) (significant true on)
     expression_back {d = d} (g.or o l kind r) d' le b on ends stop =
         g.or (fewer d d' _ _ le o) (disjunct_back l (d' + 1) (omega arith) b _ (ends_before _ _ _ refl) (record { and = λ e. cc; comparison = record { compared = record { equality = λ e. cc; inequality = λ e. cc; regex_match = λ e. cc; regex_mismatch = λ e. cc }; conjunct = record { apart = refl } } })) refl
         (expression_back r (d' + 1) (omega arith) false on ends stop)
     expression_back {d = d} (g.disjunct o l next) d' le b on ends stop = g.disjunct (fewer d d' _ _ le o) (disjunct_back l (d' + 1) (omega arith) b on ends stop.disjunct) stop.or
 
-    disjunct_back : {condition : Bool} {d : ℕ} {e : canon.Value} {fs : Shown} {ts rest : Tokens} → Disjunct lexeme nothing MayEnter condition d e fs ts rest → (d' : ℕ) → d' ≤ d → (b : Bool) (on : List Mark) → EndsIn (tail e) (significant true on) → StopD (significant true on)
-        → Disjunct lexeme nothing MayEnter' condition d' e fs (significant b (expr_marks e on)) (significant true on)
+    disjunct_back : {condition : Bool} {d : ℕ} {e : canon.Value} {fs : Shown} {ts rest : Tokens} → Disjunct lexeme nothing MayEnter condition d e fs ts rest → (d' : ℕ) → d' ≤ d → (b : Bool) (on : List Sign) → EndsIn (tail e) (significant true on) → StopD (significant true on)
+        → Disjunct lexeme nothing MayEnter' condition d' e fs (significant b (expr_signs e on)) (significant true on)
     disjunct_back (g.and l kind r) d' le b on ends stop =
         g.and (compared_back l d' le b _ (ends_before _ _ _ refl) (record { compared = record { equality = λ e. cc; inequality = λ e. cc; regex_match = λ e. cc; regex_mismatch = λ e. cc }; conjunct = record { apart = refl } })) refl (disjunct_back r d' le false on ends stop)
     disjunct_back (g.comparison l next) d' le b on ends stop = g.comparison (compared_back l d' le b on ends stop.comparison) stop.and
 
-    compared_back : {condition : Bool} {d : ℕ} {e : canon.Value} {fs : Shown} {ts rest : Tokens} → Compared lexeme nothing MayEnter condition d e fs ts rest → (d' : ℕ) → d' ≤ d → (b : Bool) (on : List Mark) → EndsIn (tail e) (significant true on) → StopM (significant true on)
-        → Compared lexeme nothing MayEnter' condition d' e fs (significant b (expr_marks e on)) (significant true on)
+    compared_back : {condition : Bool} {d : ℕ} {e : canon.Value} {fs : Shown} {ts rest : Tokens} → Compared lexeme nothing MayEnter condition d e fs ts rest → (d' : ℕ) → d' ≤ d → (b : Bool) (on : List Sign) → EndsIn (tail e) (significant true on) → StopM (significant true on)
+        → Compared lexeme nothing MayEnter' condition d' e fs (significant b (expr_signs e on)) (significant true on)
     compared_back (g.compare Equality l kind r) d' le b on ends stop =
         g.compare Equality (conjunct_back l d' le b _ (ends_before _ _ _ refl) (record { apart = refl })) refl (conjunct_back r d' le false on ends stop.conjunct)
     compared_back (g.compare by l kind r) d' le b on ends stop =
         g.compare by (conjunct_back l d' le b _ (ends_before _ _ _ refl) (record { apart = refl })) refl (conjunct_back r d' le false on ends stop.conjunct)
     compared_back (g.conjunct l next) d' le b on ends stop = g.conjunct (conjunct_back l d' le b on ends stop.conjunct) stop.compared
 
-    conjunct_back : {d : ℕ} {e : canon.Value} {fs : Shown} {ts rest : Tokens} → Conjunct lexeme nothing MayEnter d e fs ts rest → (d' : ℕ) → d' ≤ d → (b : Bool) (on : List Mark) → EndsIn (tail e) (significant true on) → StopC (significant true on)
-        → Conjunct lexeme nothing MayEnter' d' e fs (significant b (expr_marks e on)) (significant true on)
+    conjunct_back : {d : ℕ} {e : canon.Value} {fs : Shown} {ts rest : Tokens} → Conjunct lexeme nothing MayEnter d e fs ts rest → (d' : ℕ) → d' ≤ d → (b : Bool) (on : List Sign) → EndsIn (tail e) (significant true on) → StopC (significant true on)
+        → Conjunct lexeme nothing MayEnter' d' e fs (significant b (expr_signs e on)) (significant true on)
     conjunct_back (g.conditional i c) d' le b on ends stop = put_if c b on (conditional_back c (if_token b) d' le on ends)
     conjunct_back (g.root kind r) d' le b on ends stop = g.root refl (conjunct_back r d' le false on ends stop)
     conjunct_back (g.join next l kind r) d' le b on ends stop =
@@ -287,17 +287,17 @@ module _ (MayEnter MayEnter' : ℕ → Option SignificantToken → Type 0) (fewe
         let x = value_joined v ends in
         g.value (word_head (codes "if") (value_head MayEnter v b _) next) (value_back v d' le b on x.0 stop.apart) x.1
 
-    condition_back : {d : ℕ} {e : canon.Value} {fs : Shown} {ts rest : Tokens} → Condition lexeme nothing MayEnter d e fs ts rest → (d' : ℕ) → d' ≤ d → (b : Bool) (on : List Mark) → EndsIn (tail e) (significant true on) → StopE (significant true on)
-        → Condition lexeme nothing MayEnter' d' e fs (significant b (expr_marks e on)) (significant true on)
+    condition_back : {d : ℕ} {e : canon.Value} {fs : Shown} {ts rest : Tokens} → Condition lexeme nothing MayEnter d e fs ts rest → (d' : ℕ) → d' ≤ d → (b : Bool) (on : List Sign) → EndsIn (tail e) (significant true on) → StopE (significant true on)
+        → Condition lexeme nothing MayEnter' d' e fs (significant b (expr_signs e on)) (significant true on)
     condition_back (g.condition x) d' le b on ends stop = as_condition (expression_head MayEnter x b on) (expression_back x d' le b on ends stop)
 
-    braced_back : {d : ℕ} {e : canon.Value} {fs : Shown} {ts rest : Tokens} → Braced lexeme nothing MayEnter d e fs ts rest → (d' : ℕ) → d' ≤ d → (on : List Mark)
-        → Braced lexeme nothing MayEnter' d' e fs (significant false (brace_left ∷ space ∷ expr_marks e (space ∷ brace_right ∷ on))) (significant true on)
+    braced_back : {d : ℕ} {e : canon.Value} {fs : Shown} {ts rest : Tokens} → Braced lexeme nothing MayEnter d e fs ts rest → (d' : ℕ) → d' ≤ d → (on : List Sign)
+        → Braced lexeme nothing MayEnter' d' e fs (significant false (brace_left ∷ space ∷ expr_signs e (space ∷ brace_right ∷ on))) (significant true on)
     braced_back (g.braces kind e kind2) d' le on = g.braces refl (expression_back e d' le false _ (ends_before _ _ _ refl) (stop_before _ _ refl)) refl
 
     -- after the `if`
-    conditional_back : {d : ℕ} {w : SignificantToken} {e : canon.Value} {fs : Shown} {ts rest : Tokens} → Conditional lexeme nothing MayEnter d w e fs ts rest → (w' : SignificantToken) (d' : ℕ) → d' ≤ d → (on : List Mark) → EndsIn (tail e) (significant true on)
-        → Conditional lexeme nothing MayEnter' d' w' e fs (significant true (following (expr_marks e on))) (significant true on)
+    conditional_back : {d : ℕ} {w : SignificantToken} {e : canon.Value} {fs : Shown} {ts rest : Tokens} → Conditional lexeme nothing MayEnter d w e fs ts rest → (w' : SignificantToken) (d' : ℕ) → d' ≤ d → (on : List Sign) → EndsIn (tail e) (significant true on)
+        → Conditional lexeme nothing MayEnter' d' w' e fs (significant true (following (expr_signs e on))) (significant true on)
     conditional_back (g.if_only c t next) w' d' le on ends =
         g.if_only (condition_back c d' le false _ (ends_before _ _ _ refl) (stop_before _ _ refl)) (braced_back t d' le on) ends.is.1
     conditional_back (g.if_else {c = c'} {b = t'} {o = o'} {cs} {bs} {os} c t w o next) w' d' le on ends =
@@ -308,33 +308,33 @@ module _ (MayEnter MayEnter' : ℕ → Option SignificantToken → Type 0) (fewe
         (λ is. conditional_back o (if_token false) d' le on (subst (λ x. EndsIn x (significant true on)) (sym (tail_conditional o' is)) ends)) (no_else (ends_open o') ends)
 
     -- a conditional in braces
-    braced_conditional : {d : ℕ} {e : canon.Value} {fs : Shown} {ts rest : Tokens} → Braced lexeme nothing MayEnter d e fs ts rest → is_conditional e ≡ true → (d' : ℕ) → d' ≤ d → (on : List Mark) → EndsIn (tail e) (significant true on)
-        → Conditional lexeme nothing MayEnter' d' (if_token false) e fs (significant true (following (expr_marks e on))) (significant true on)
+    braced_conditional : {d : ℕ} {e : canon.Value} {fs : Shown} {ts rest : Tokens} → Braced lexeme nothing MayEnter d e fs ts rest → is_conditional e ≡ true → (d' : ℕ) → d' ≤ d → (on : List Sign) → EndsIn (tail e) (significant true on)
+        → Conditional lexeme nothing MayEnter' d' (if_token false) e fs (significant true (following (expr_signs e on))) (significant true on)
     braced_conditional (g.braces kind e kind2) is d' le on ends = expression_conditional e is d' le on ends
 
-    expression_conditional : {condition : Bool} {d : ℕ} {e : canon.Value} {fs : Shown} {ts rest : Tokens} → Expression lexeme nothing MayEnter condition d e fs ts rest → is_conditional e ≡ true → (d' : ℕ) → d' ≤ d → (on : List Mark) → EndsIn (tail e) (significant true on)
-        → Conditional lexeme nothing MayEnter' d' (if_token false) e fs (significant true (following (expr_marks e on))) (significant true on)
+    expression_conditional : {condition : Bool} {d : ℕ} {e : canon.Value} {fs : Shown} {ts rest : Tokens} → Expression lexeme nothing MayEnter condition d e fs ts rest → is_conditional e ≡ true → (d' : ℕ) → d' ≤ d → (on : List Sign) → EndsIn (tail e) (significant true on)
+        → Conditional lexeme nothing MayEnter' d' (if_token false) e fs (significant true (following (expr_signs e on))) (significant true on)
     expression_conditional (g.or o l kind r) is d' le on ends = absurd (no_bool (sym is))
     expression_conditional (g.disjunct o l next) is d' le on ends = disjunct_conditional l is d' (omega arith) on ends
 
-    disjunct_conditional : {condition : Bool} {d : ℕ} {e : canon.Value} {fs : Shown} {ts rest : Tokens} → Disjunct lexeme nothing MayEnter condition d e fs ts rest → is_conditional e ≡ true → (d' : ℕ) → d' ≤ d → (on : List Mark) → EndsIn (tail e) (significant true on)
-        → Conditional lexeme nothing MayEnter' d' (if_token false) e fs (significant true (following (expr_marks e on))) (significant true on)
+    disjunct_conditional : {condition : Bool} {d : ℕ} {e : canon.Value} {fs : Shown} {ts rest : Tokens} → Disjunct lexeme nothing MayEnter condition d e fs ts rest → is_conditional e ≡ true → (d' : ℕ) → d' ≤ d → (on : List Sign) → EndsIn (tail e) (significant true on)
+        → Conditional lexeme nothing MayEnter' d' (if_token false) e fs (significant true (following (expr_signs e on))) (significant true on)
     disjunct_conditional (g.and l kind r) is d' le on ends = absurd (no_bool (sym is))
     disjunct_conditional (g.comparison l next) is d' le on ends = compared_conditional l is d' le on ends
 
-    compared_conditional : {condition : Bool} {d : ℕ} {e : canon.Value} {fs : Shown} {ts rest : Tokens} → Compared lexeme nothing MayEnter condition d e fs ts rest → is_conditional e ≡ true → (d' : ℕ) → d' ≤ d → (on : List Mark) → EndsIn (tail e) (significant true on)
-        → Conditional lexeme nothing MayEnter' d' (if_token false) e fs (significant true (following (expr_marks e on))) (significant true on)
+    compared_conditional : {condition : Bool} {d : ℕ} {e : canon.Value} {fs : Shown} {ts rest : Tokens} → Compared lexeme nothing MayEnter condition d e fs ts rest → is_conditional e ≡ true → (d' : ℕ) → d' ≤ d → (on : List Sign) → EndsIn (tail e) (significant true on)
+        → Conditional lexeme nothing MayEnter' d' (if_token false) e fs (significant true (following (expr_signs e on))) (significant true on)
     compared_conditional (g.compare by l kind r) is d' le on ends = absurd (no_bool (sym is))
     compared_conditional (g.conjunct l next) is d' le on ends = conjunct_conditional l is d' le on ends
 
-    conjunct_conditional : {d : ℕ} {e : canon.Value} {fs : Shown} {ts rest : Tokens} → Conjunct lexeme nothing MayEnter d e fs ts rest → is_conditional e ≡ true → (d' : ℕ) → d' ≤ d → (on : List Mark) → EndsIn (tail e) (significant true on)
-        → Conditional lexeme nothing MayEnter' d' (if_token false) e fs (significant true (following (expr_marks e on))) (significant true on)
+    conjunct_conditional : {d : ℕ} {e : canon.Value} {fs : Shown} {ts rest : Tokens} → Conjunct lexeme nothing MayEnter d e fs ts rest → is_conditional e ≡ true → (d' : ℕ) → d' ≤ d → (on : List Sign) → EndsIn (tail e) (significant true on)
+        → Conditional lexeme nothing MayEnter' d' (if_token false) e fs (significant true (following (expr_signs e on))) (significant true on)
     conjunct_conditional (g.conditional i c) is d' le on ends = conditional_back c (if_token false) d' le on ends
     conjunct_conditional (g.value next v unjoined) is d' le on ends = absurd (value_no_conditional v is)
     conjunct_conditional _ is d' le on ends = absurd (no_bool (sym is))
 
-    pub value_back : {d : ℕ} {e : canon.Value} {fs : Shown} {ts rest : Tokens} → Value lexeme nothing MayEnter d e fs ts rest → (d' : ℕ) → d' ≤ d → (b : Bool) (on : List Mark) → ValueEndsIn (tail e) (significant true on) → glued_string (significant true on) ≡ false
-        → Value lexeme nothing MayEnter' d' e fs (significant b (expr_marks e on)) (significant true on)
+    pub value_back : {d : ℕ} {e : canon.Value} {fs : Shown} {ts rest : Tokens} → Value lexeme nothing MayEnter d e fs ts rest → (d' : ℕ) → d' ≤ d → (b : Bool) (on : List Sign) → ValueEndsIn (tail e) (significant true on) → glued_string (significant true on) ≡ false
+        → Value lexeme nothing MayEnter' d' e fs (significant b (expr_signs e on)) (significant true on)
     value_back (g.not kind v) d' le b on ends apart = g.not refl (value_back v d' le true on ends apart)
     value_back (g.literal kind) d' le b on ends apart = g.literal refl
     value_back (g.expanded {token} m) d' le b on ends apart = g.expanded (is_marked (codes "x") kinds.StringToken token.tok.lexeme)
@@ -353,15 +353,15 @@ module _ (MayEnter MayEnter' : ℕ → Option SignificantToken → Type 0) (fewe
     value_back (g.group kind e kind2) d' le b on ends apart = g.group refl (expression_back e d' le true _ (ends_before _ _ _ refl) (stop_before _ _ refl)) refl
     value_back (g.list kind s) d' le b on ends apart = g.list refl (sequence_back false s refl d' le true on)
 
-    pub sequence_back : (p : Bool) {closing : TokenKind} {d : ℕ} {es : Values} {fs : Shown} {ts rest : Tokens} → Sequence lexeme nothing MayEnter closing d es fs ts rest → closing ≡ (closer p).kind → (d' : ℕ) → d' ≤ d → (b : Bool) (on : List Mark)
-        → Sequence lexeme nothing MayEnter' (closer p).kind d' es fs (significant b (exprs_marks es (closer p ∷ on))) (significant true on)
+    pub sequence_back : (p : Bool) {closing : TokenKind} {d : ℕ} {es : Values} {fs : Shown} {ts rest : Tokens} → Sequence lexeme nothing MayEnter closing d es fs ts rest → closing ≡ (closer p).kind → (d' : ℕ) → d' ≤ d → (b : Bool) (on : List Sign)
+        → Sequence lexeme nothing MayEnter' (closer p).kind d' es fs (significant b (exprs_signs es (closer p ∷ on))) (significant true on)
     sequence_back p (g.none kind) same d' le b on = end_none p d' b on
     sequence_back p {closing} (g.last {e = e'} {fs} next e kind) same d' le b on =
-        end_last p d' e' fs _ on (subst (λ k. NotNext k (significant b (expr_marks e' (closer p ∷ on)))) same (next_head closing (expression_head MayEnter e b _) next)) (expression_back e d' le b (closer p ∷ on) (closer_ends (tail e') p on) (closer_stop p on))
+        end_last p d' e' fs _ on (subst (λ k. NotNext k (significant b (expr_signs e' (closer p ∷ on)))) same (next_head closing (expression_head MayEnter e b _) next)) (expression_back e d' le b (closer p ∷ on) (closer_ends (tail e') p on) (closer_stop p on))
     sequence_back p {closing} (g.more {e = e'} {es = es'} {fs} {gs} next e kind s) same d' le b on =
-        joined p d' e' es' fs gs on b (subst (λ k. NotNext k (significant b (expr_marks e' (others_marks es' (closer p ∷ on))))) same (next_head closing (expression_head MayEnter e b _) next)) (expression_back e d' le b) (sequence_back p s same d' le false on)
+        joined p d' e' es' fs gs on b (subst (λ k. NotNext k (significant b (expr_signs e' (others_signs es' (closer p ∷ on))))) same (next_head closing (expression_head MayEnter e b _) next)) (expression_back e d' le b) (sequence_back p s same d' le false on)
 
-    parts_back : {d : ℕ} {ps : ShapeParts} {fs : Shown} {ts rest : Tokens} → FormatParts lexeme nothing MayEnter d ps fs ts rest → (d' : ℕ) → d' ≤ d → (b : Bool) (on : List Mark)
-        → FormatParts lexeme nothing MayEnter' d' ps fs (significant b (parts_marks ps on)) (significant true on)
+    parts_back : {d : ℕ} {ps : ShapeParts} {fs : Shown} {ts rest : Tokens} → FormatParts lexeme nothing MayEnter d ps fs ts rest → (d' : ℕ) → d' ≤ d → (b : Bool) (on : List Sign)
+        → FormatParts lexeme nothing MayEnter' d' ps fs (significant b (parts_signs ps on)) (significant true on)
     parts_back (g.end kind) d' le b on = g.end refl
     parts_back (g.next {ps = ps'} kind e ps) d' le b on = g.next refl (expression_back e d' le false _ (parts_ends _ ps' on) (parts_stop ps' on)) (parts_back ps d' le false on)

@@ -9,7 +9,7 @@ use Rattle.justfile_model.specs.Trees.Tree.{Expr, Or, And, Comparison, Concatena
 use Rattle.justfile_model.specs.Grammars.Features.{Noted}
 use Rattle.justfile_model.specs.Grammars.Expressions.{operator_kind}
 use Rattle.justfile_model.specs.Printed.Printing.{fixed_text, is_conditional, other_text, expr_text, exprs_text, parts_text, fragment_text, body_line_text, body_text}
-use Rattle.justfile_round_trip.proofs.LiteralTexts.LexedModes.{Mark, mark}
+use Rattle.justfile_round_trip.proofs.LiteralTexts.LexedModes.{Sign, sign}
 
 -- What a shape is made of: expressions, fragments, lines of bodies, and items with their contents.
 abbrev pub Value : Type 0
@@ -31,33 +31,33 @@ ShapeItem = OrderedItem (List ℕ) (Unit {0}) (Unit {0})
 abbrev pub Shown : Type 0
 Shown = List (Noted (Unit {0}))
 
-abbrev pub space : Mark
-space = mark kinds.Whitespace (32 ∷ [])
+abbrev pub space : Sign
+space = sign kinds.Whitespace (32 ∷ [])
 
-abbrev pub newline : Mark
-newline = mark kinds.Eol (10 ∷ [])
+abbrev pub newline : Sign
+newline = sign kinds.Eol (10 ∷ [])
 
-abbrev pub colon : Mark
-colon = mark kinds.Colon (58 ∷ [])
+abbrev pub colon : Sign
+colon = sign kinds.Colon (58 ∷ [])
 
 -- a name, or a word like `if`
-abbrev pub word : List ℕ → Mark
-word = mark kinds.Identifier
+abbrev pub word : List ℕ → Sign
+word = sign kinds.Identifier
 
-abbrev pub brace_left : Mark
-brace_left = mark kinds.BraceL (codes "{")
+abbrev pub brace_left : Sign
+brace_left = sign kinds.BraceL (codes "{")
 
-abbrev pub brace_right : Mark
-brace_right = mark kinds.BraceR (codes "}")
+abbrev pub brace_right : Sign
+brace_right = sign kinds.BraceR (codes "}")
 
-abbrev pub paren_left : Mark
-paren_left = mark kinds.ParenL (codes "(")
+abbrev pub paren_left : Sign
+paren_left = sign kinds.ParenL (codes "(")
 
-abbrev pub paren_right : Mark
-paren_right = mark kinds.ParenR (codes ")")
+abbrev pub paren_right : Sign
+paren_right = sign kinds.ParenR (codes ")")
 
-abbrev pub comma : Mark
-comma = mark kinds.Comma (codes ",")
+abbrev pub comma : Sign
+comma = sign kinds.Comma (codes ",")
 
 abbrev pub operator_codes : ConditionalOperator → List ℕ
 operator_codes Equality = codes "=="
@@ -110,41 +110,41 @@ abbrev mutual
   parts_on (Continue lexeme e parts) more = lexeme ++ (32 ∷ expr_on e (32 ∷ parts_on parts more))
 
 abbrev mutual
-  pub expr_marks : Value → List Mark → List Mark
-  expr_marks (Or l r) ts = expr_marks l (space ∷ mark kinds.BarBar (codes "||") ∷ space ∷ expr_marks r ts)
-  expr_marks (And l r) ts = expr_marks l (space ∷ mark kinds.AmpersandAmpersand (codes "&&") ∷ space ∷ expr_marks r ts)
-  expr_marks (Comparison l operator token r) ts = expr_marks l (space ∷ mark (operator_kind operator) (operator_codes operator) ∷ space ∷ expr_marks r ts)
-  expr_marks (Concatenation l operator r) ts = expr_marks l (space ∷ mark kinds.Plus (codes "+") ∷ space ∷ expr_marks r ts)
-  expr_marks (ListConcatenation l operator r) ts = expr_marks l (space ∷ mark kinds.PlusPlus (codes "++") ∷ space ∷ expr_marks r ts)
-  expr_marks (Join l operator r) ts = expr_marks l (space ∷ mark kinds.Slash (codes "/") ∷ space ∷ expr_marks r ts)
-  expr_marks (Root operator r) ts = mark kinds.Slash (codes "/") ∷ space ∷ expr_marks r ts
-  expr_marks (If c b) ts = word (codes "if") ∷ space ∷ expr_marks c (space ∷ brace_left ∷ space ∷ expr_marks b (space ∷ brace_right ∷ ts))
-  expr_marks (IfElse c b o) ts = word (codes "if") ∷ space ∷ expr_marks c (space ∷ brace_left ∷ space ∷ expr_marks b (space ∷ brace_right ∷ space ∷ word (codes "else") ∷ space
-      ∷ cond (is_conditional o) (expr_marks o ts) (brace_left ∷ space ∷ expr_marks o (space ∷ brace_right ∷ ts))))
-  expr_marks (Not e) ts = mark kinds.Bang (codes "!") ∷ expr_marks e ts
-  expr_marks (StringLiteral true lexeme) ts = word (codes "x") ∷ mark kinds.StringToken lexeme ∷ ts
-  expr_marks (StringLiteral false lexeme) ts = mark kinds.StringToken lexeme ∷ ts
-  expr_marks (FormatLiteral lexeme) ts = word (codes "f") ∷ mark kinds.StringToken lexeme ∷ ts
-  expr_marks (FormatString start e parts) ts = word (codes "f") ∷ mark kinds.FormatStringStart start ∷ space ∷ expr_marks e (space ∷ parts_marks parts ts)
-  expr_marks (Backtick lexeme) ts = mark kinds.Backtick lexeme ∷ ts
-  expr_marks (Assert name c) ts = word (codes "assert") ∷ paren_left ∷ expr_marks c (paren_right ∷ ts)
-  expr_marks (AssertMessage name c m) ts = word (codes "assert") ∷ paren_left ∷ expr_marks c (comma ∷ space ∷ expr_marks m (paren_right ∷ ts))
-  expr_marks (Variable name) ts = word name ∷ ts
-  expr_marks (Call name arguments) ts = word name ∷ paren_left ∷ exprs_marks arguments (paren_right ∷ ts)
-  expr_marks (Group e) ts = paren_left ∷ expr_marks e (paren_right ∷ ts)
-  expr_marks (ListOf opener elements) ts = mark kinds.BracketL (codes "[") ∷ exprs_marks elements (mark kinds.BracketR (codes "]") ∷ ts)
+  pub expr_signs : Value → List Sign → List Sign
+  expr_signs (Or l r) ts = expr_signs l (space ∷ sign kinds.BarBar (codes "||") ∷ space ∷ expr_signs r ts)
+  expr_signs (And l r) ts = expr_signs l (space ∷ sign kinds.AmpersandAmpersand (codes "&&") ∷ space ∷ expr_signs r ts)
+  expr_signs (Comparison l operator token r) ts = expr_signs l (space ∷ sign (operator_kind operator) (operator_codes operator) ∷ space ∷ expr_signs r ts)
+  expr_signs (Concatenation l operator r) ts = expr_signs l (space ∷ sign kinds.Plus (codes "+") ∷ space ∷ expr_signs r ts)
+  expr_signs (ListConcatenation l operator r) ts = expr_signs l (space ∷ sign kinds.PlusPlus (codes "++") ∷ space ∷ expr_signs r ts)
+  expr_signs (Join l operator r) ts = expr_signs l (space ∷ sign kinds.Slash (codes "/") ∷ space ∷ expr_signs r ts)
+  expr_signs (Root operator r) ts = sign kinds.Slash (codes "/") ∷ space ∷ expr_signs r ts
+  expr_signs (If c b) ts = word (codes "if") ∷ space ∷ expr_signs c (space ∷ brace_left ∷ space ∷ expr_signs b (space ∷ brace_right ∷ ts))
+  expr_signs (IfElse c b o) ts = word (codes "if") ∷ space ∷ expr_signs c (space ∷ brace_left ∷ space ∷ expr_signs b (space ∷ brace_right ∷ space ∷ word (codes "else") ∷ space
+      ∷ cond (is_conditional o) (expr_signs o ts) (brace_left ∷ space ∷ expr_signs o (space ∷ brace_right ∷ ts))))
+  expr_signs (Not e) ts = sign kinds.Bang (codes "!") ∷ expr_signs e ts
+  expr_signs (StringLiteral true lexeme) ts = word (codes "x") ∷ sign kinds.StringToken lexeme ∷ ts
+  expr_signs (StringLiteral false lexeme) ts = sign kinds.StringToken lexeme ∷ ts
+  expr_signs (FormatLiteral lexeme) ts = word (codes "f") ∷ sign kinds.StringToken lexeme ∷ ts
+  expr_signs (FormatString start e parts) ts = word (codes "f") ∷ sign kinds.FormatStringStart start ∷ space ∷ expr_signs e (space ∷ parts_signs parts ts)
+  expr_signs (Backtick lexeme) ts = sign kinds.Backtick lexeme ∷ ts
+  expr_signs (Assert name c) ts = word (codes "assert") ∷ paren_left ∷ expr_signs c (paren_right ∷ ts)
+  expr_signs (AssertMessage name c m) ts = word (codes "assert") ∷ paren_left ∷ expr_signs c (comma ∷ space ∷ expr_signs m (paren_right ∷ ts))
+  expr_signs (Variable name) ts = word name ∷ ts
+  expr_signs (Call name arguments) ts = word name ∷ paren_left ∷ exprs_signs arguments (paren_right ∷ ts)
+  expr_signs (Group e) ts = paren_left ∷ expr_signs e (paren_right ∷ ts)
+  expr_signs (ListOf opener elements) ts = sign kinds.BracketL (codes "[") ∷ exprs_signs elements (sign kinds.BracketR (codes "]") ∷ ts)
 
-  pub exprs_marks : Values → List Mark → List Mark
-  exprs_marks tree.none ts = ts
-  exprs_marks (tree.more e es) ts = expr_marks e (others_marks es ts)
+  pub exprs_signs : Values → List Sign → List Sign
+  exprs_signs tree.none ts = ts
+  exprs_signs (tree.more e es) ts = expr_signs e (others_signs es ts)
 
-  pub others_marks : Values → List Mark → List Mark
-  others_marks tree.none ts = ts
-  others_marks (tree.more e es) ts = comma ∷ space ∷ expr_marks e (others_marks es ts)
+  pub others_signs : Values → List Sign → List Sign
+  others_signs tree.none ts = ts
+  others_signs (tree.more e es) ts = comma ∷ space ∷ expr_signs e (others_signs es ts)
 
-  pub parts_marks : ShapeParts → List Mark → List Mark
-  parts_marks (Last lexeme) ts = mark kinds.FormatStringEnd lexeme ∷ ts
-  parts_marks (Continue lexeme e parts) ts = mark kinds.FormatStringContinue lexeme ∷ space ∷ expr_marks e (space ∷ parts_marks parts ts)
+  pub parts_signs : ShapeParts → List Sign → List Sign
+  parts_signs (Last lexeme) ts = sign kinds.FormatStringEnd lexeme ∷ ts
+  parts_signs (Continue lexeme e parts) ts = sign kinds.FormatStringContinue lexeme ∷ space ∷ expr_signs e (space ∷ parts_signs parts ts)
 
 -- ---- bodies
 
@@ -176,27 +176,27 @@ pub body_on_is : (ind : List ℕ) (ls : List ShapeLine) (more : List ℕ) → bo
 body_on_is ind [] more = refl
 body_on_is ind (l ∷ ls) more = ap (λ x. 10 ∷ line_on ind l x) (body_on_is ind ls more)
 
-abbrev pub fragment_marks : Fragment → List Mark → List Mark
-fragment_marks (Text t) ts = mark kinds.Text t ∷ ts
-fragment_marks (Interpolation e) ts = mark kinds.InterpolationStart (123 ∷ 123 ∷ []) ∷ space ∷ expr_marks e (space ∷ mark kinds.InterpolationEnd (125 ∷ 125 ∷ []) ∷ ts)
+abbrev pub fragment_signs : Fragment → List Sign → List Sign
+fragment_signs (Text t) ts = sign kinds.Text t ∷ ts
+fragment_signs (Interpolation e) ts = sign kinds.InterpolationStart (123 ∷ 123 ∷ []) ∷ space ∷ expr_signs e (space ∷ sign kinds.InterpolationEnd (125 ∷ 125 ∷ []) ∷ ts)
 
-abbrev pub fragments_marks : List Fragment → List Mark → List Mark
-fragments_marks [] ts = ts
-fragments_marks (f ∷ fs) ts = fragment_marks f (fragments_marks fs ts)
+abbrev pub fragments_signs : List Fragment → List Sign → List Sign
+fragments_signs [] ts = ts
+fragments_signs (f ∷ fs) ts = fragment_signs f (fragments_signs fs ts)
 
 -- the lines after the first
-abbrev pub line_marks : List ℕ → ShapeLine → List Mark → List Mark
-line_marks ind (Line number []) ts = ts
-line_marks ind (Line number (f ∷ fs)) ts = mark kinds.Whitespace ind ∷ fragments_marks (f ∷ fs) ts
+abbrev pub line_signs : List ℕ → ShapeLine → List Sign → List Sign
+line_signs ind (Line number []) ts = ts
+line_signs ind (Line number (f ∷ fs)) ts = sign kinds.Whitespace ind ∷ fragments_signs (f ∷ fs) ts
 
-abbrev pub lines_marks : List ℕ → List ShapeLine → List Mark → List Mark
-lines_marks ind [] ts = ts
-lines_marks ind (l ∷ ls) ts = line_marks ind l (newline ∷ lines_marks ind ls ts)
+abbrev pub lines_signs : List ℕ → List ShapeLine → List Sign → List Sign
+lines_signs ind [] ts = ts
+lines_signs ind (l ∷ ls) ts = line_signs ind l (newline ∷ lines_signs ind ls ts)
 
 -- a body, from its Indent to its Dedent, before the tokens after it
-abbrev pub body_marks : List ℕ → List ShapeLine → List Mark → List Mark
-body_marks ind [] ts = ts
-body_marks ind (Line number fs ∷ ls) ts = mark kinds.Indent ind ∷ fragments_marks fs (newline ∷ lines_marks ind ls (mark kinds.Dedent [] ∷ ts))
+abbrev pub body_signs : List ℕ → List ShapeLine → List Sign → List Sign
+body_signs ind [] ts = ts
+body_signs ind (Line number fs ∷ ls) ts = sign kinds.Indent ind ∷ fragments_signs fs (newline ∷ lines_signs ind ls (sign kinds.Dedent [] ∷ ts))
 
 -- ---- the text of the definitions is this text
 

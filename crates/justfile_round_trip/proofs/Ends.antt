@@ -7,9 +7,9 @@ use Rattle.justfile_model.specs.Trees.Tree as tree
 use Rattle.justfile_model.specs.Trees.Tree.{Expr, lexeme, nothing}
 use Rattle.justfile_model.specs.Grammars.Expressions as g
 use Rattle.justfile_model.specs.Grammars.Expressions.{Tokens, ends_open, NotNext, IsWord, NotWord, NotJoined, Expression, Disjunct, Compared, Conjunct, Conditional, Value}
-use Rattle.justfile_round_trip.proofs.LiteralTexts.LexedModes.{Mark}
+use Rattle.justfile_round_trip.proofs.LiteralTexts.LexedModes.{Sign}
 use Rattle.justfile_round_trip.proofs.Canon as canon
-use Rattle.justfile_round_trip.proofs.Canon.{Shown, expr_marks}
+use Rattle.justfile_round_trip.proofs.Canon.{Shown, expr_signs}
 use Rattle.justfile_round_trip.proofs.Good.{significant}
 
 -- with a name, with another value, with a conditional that an `else` would go on, or with one that none does
@@ -59,13 +59,13 @@ may_begin kinds.BracketL = true
 may_begin kinds.Slash = true
 may_begin _ = false
 
--- The first tokens are of one kind, and one word; the second has this mark, and may begin an expression.
+-- The first tokens are of one kind, and one word; the second is glued if this is true, and may begin an expression.
 pub data SameHead (glued : Bool) : Tokens → Tokens → Type 0 where
   same_head : {t u : SignificantToken} {ts us : Tokens} → t.tok.kind ≡ u.tok.kind → (u.tok.kind ≡ kinds.Identifier → t.tok.lexeme ≡ u.tok.lexeme)
       → u.glued ≡ glued → may_begin u.tok.kind ≡ true → SameHead glued (t ∷ ts) (u ∷ us)
 
 module _ (MayEnter : ℕ → Option SignificantToken → Type 0) where
-  pub value_head : {d : ℕ} {e : canon.Value} {fs : Shown} {ts rest : Tokens} → Value lexeme nothing MayEnter d e fs ts rest → (b : Bool) (on : List Mark) → SameHead b ts (significant b (expr_marks e on))
+  pub value_head : {d : ℕ} {e : canon.Value} {fs : Shown} {ts rest : Tokens} → Value lexeme nothing MayEnter d e fs ts rest → (b : Bool) (on : List Sign) → SameHead b ts (significant b (expr_signs e on))
   value_head (g.not kind v) b on = same_head kind (λ e. cc) refl refl
   value_head (g.literal kind) b on = same_head kind (λ e. cc) refl refl
   value_head (g.expanded m) b on = same_head m.marks.is_name (λ _. m.marks.spelled) refl refl
@@ -79,11 +79,11 @@ module _ (MayEnter : ℕ → Option SignificantToken → Type 0) where
   value_head (g.group kind e kind2) b on = same_head kind (λ e. cc) refl refl
   value_head (g.list kind s) b on = same_head kind (λ e. cc) refl refl
 
-  conditional_head : {d : ℕ} {e : canon.Value} {fs : Shown} {i : SignificantToken} {ts rest : Tokens} → IsWord (codes "if") i → Conditional lexeme nothing MayEnter d i e fs ts rest → (b : Bool) (on : List Mark) → SameHead b (i ∷ ts) (significant b (expr_marks e on))
+  conditional_head : {d : ℕ} {e : canon.Value} {fs : Shown} {i : SignificantToken} {ts rest : Tokens} → IsWord (codes "if") i → Conditional lexeme nothing MayEnter d i e fs ts rest → (b : Bool) (on : List Sign) → SameHead b (i ∷ ts) (significant b (expr_signs e on))
   conditional_head i (g.if_only c x next) b on = same_head i.is_name (λ _. i.spelled) refl refl
   conditional_head i _ b on = same_head i.is_name (λ _. i.spelled) refl refl
 
-  pub conjunct_head : {d : ℕ} {e : canon.Value} {fs : Shown} {ts rest : Tokens} → Conjunct lexeme nothing MayEnter d e fs ts rest → (b : Bool) (on : List Mark) → SameHead b ts (significant b (expr_marks e on))
+  pub conjunct_head : {d : ℕ} {e : canon.Value} {fs : Shown} {ts rest : Tokens} → Conjunct lexeme nothing MayEnter d e fs ts rest → (b : Bool) (on : List Sign) → SameHead b ts (significant b (expr_signs e on))
   conjunct_head (g.conditional i c) b on = conditional_head i c b on
   conjunct_head (g.root kind r) b on = same_head kind (λ e. cc) refl refl
   conjunct_head (g.join next l kind r) b on = value_head l b _
@@ -91,14 +91,14 @@ module _ (MayEnter : ℕ → Option SignificantToken → Type 0) where
   conjunct_head (g.concatenation next l kind r) b on = value_head l b _
   conjunct_head (g.value next v joined) b on = value_head v b on
 
-  compared_head : {condition : Bool} {d : ℕ} {e : canon.Value} {fs : Shown} {ts rest : Tokens} → Compared lexeme nothing MayEnter condition d e fs ts rest → (b : Bool) (on : List Mark) → SameHead b ts (significant b (expr_marks e on))
+  compared_head : {condition : Bool} {d : ℕ} {e : canon.Value} {fs : Shown} {ts rest : Tokens} → Compared lexeme nothing MayEnter condition d e fs ts rest → (b : Bool) (on : List Sign) → SameHead b ts (significant b (expr_signs e on))
   compared_head (g.compare by l kind r) b on = conjunct_head l b _
   compared_head (g.conjunct l next) b on = conjunct_head l b on
 
-  disjunct_head : {condition : Bool} {d : ℕ} {e : canon.Value} {fs : Shown} {ts rest : Tokens} → Disjunct lexeme nothing MayEnter condition d e fs ts rest → (b : Bool) (on : List Mark) → SameHead b ts (significant b (expr_marks e on))
+  disjunct_head : {condition : Bool} {d : ℕ} {e : canon.Value} {fs : Shown} {ts rest : Tokens} → Disjunct lexeme nothing MayEnter condition d e fs ts rest → (b : Bool) (on : List Sign) → SameHead b ts (significant b (expr_signs e on))
   disjunct_head (g.and l kind r) b on = compared_head l b _
   disjunct_head (g.comparison l next) b on = compared_head l b on
 
-  pub expression_head : {condition : Bool} {d : ℕ} {e : canon.Value} {fs : Shown} {ts rest : Tokens} → Expression lexeme nothing MayEnter condition d e fs ts rest → (b : Bool) (on : List Mark) → SameHead b ts (significant b (expr_marks e on))
+  pub expression_head : {condition : Bool} {d : ℕ} {e : canon.Value} {fs : Shown} {ts rest : Tokens} → Expression lexeme nothing MayEnter condition d e fs ts rest → (b : Bool) (on : List Sign) → SameHead b ts (significant b (expr_signs e on))
   expression_head (g.or o l kind r) b on = disjunct_head l b _
   expression_head (g.disjunct o l next) b on = disjunct_head l b on

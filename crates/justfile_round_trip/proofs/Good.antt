@@ -19,18 +19,18 @@ use Rattle.justfile_model.specs.Lexing.SignificantTokens.{SignificantToken, sign
 use Rattle.justfile_model.specs.Trees.Tree as tree
 use Rattle.justfile_model.specs.Trees.Tree.{Or, And, Comparison, Concatenation, ListConcatenation, Join, Root, If, IfElse, Not, StringLiteral, FormatLiteral, FormatString, Backtick, Assert, AssertMessage, Variable, Call, Group, ListOf, Last, Continue, Text, Interpolation, Line, lexeme, nothing, trimmed}
 use Rattle.justfile_model.specs.Grammars.Expressions.{BelowLimit, Expression}
-use Rattle.justfile_round_trip.proofs.LiteralTexts.LexedModes.{Mark, mark, placed}
+use Rattle.justfile_round_trip.proofs.LiteralTexts.LexedModes.{Sign, sign, placed}
 use Rattle.justfile_round_trip.proofs.LiteralTexts.Inline.{head_is, IsName, IsLiteral, IsPart, delimiter_of}
 use Rattle.justfile_round_trip.proofs.RecipeBodies.Lines.{IsComment}
 use Rattle.justfile_round_trip.proofs.RecipeBodies.BodyLines.{IsRaw}
-use Rattle.justfile_round_trip.proofs.Canon.{Shown, Value, Values, ShapeParts, Fragment, ShapeLine, expr_on, expr_marks}
+use Rattle.justfile_round_trip.proofs.Canon.{Shown, Value, Values, ShapeParts, Fragment, ShapeLine, expr_on, expr_signs}
 
 -- the printer's tokens without places, and what the parser reads of them
-abbrev pub unplaced : List Mark → List Tok
-unplaced [] = placed (mark kinds.Eof []) 0 0 0 ∷ []
+abbrev pub unplaced : List Sign → List Tok
+unplaced [] = placed (sign kinds.Eof []) 0 0 0 ∷ []
 unplaced (t ∷ ts) = placed t 0 0 0 ∷ unplaced ts
 
-abbrev pub significant : Bool → List Mark → List SignificantToken
+abbrev pub significant : Bool → List Sign → List SignificantToken
 significant glued ts = significant_from glued (unplaced ts)
 
 -- ---- values
@@ -180,7 +180,7 @@ GoodOptionalComment (Some t) = GoodComment t
 module _ (limit : ℕ) where
   -- the value's tokens derive it, before any others that a value ends at
   pub record DerivesBack (e : Value) (features : Shown) : Type 0 where
-    pub derives : (glued : Bool) (on : List Mark) → ends_value (significant true on) ≡ true → Expression lexeme nothing (BelowLimit limit) false 0 e features (significant glued (expr_marks e on)) (significant true on)
+    pub derives : (glued : Bool) (on : List Sign) → ends_value (significant true on) ≡ true → Expression lexeme nothing (BelowLimit limit) false 0 e features (significant glued (expr_signs e on)) (significant true on)
 
   -- a value that no other is open around
   pub record GoodExpression (e : Value) : Type 0 where

@@ -9,7 +9,7 @@ use Rattle.justfile_round_trip.proofs.RecipeBodies.Lines.{at_item, item_comment,
 use Rattle.justfile_round_trip.proofs.Canon.{ShapeLine, ShapeContent}
 use Rattle.justfile_round_trip.proofs.Attributes.CanonAttributes.{ShapeEntry}
 use Rattle.justfile_round_trip.proofs.Headers.CanonHeaders.{ShapeHeader}
-use Rattle.justfile_round_trip.proofs.Items.CanonItems.{recipe_item, item_marks, end_marks, text_on, marks_from, marks}
+use Rattle.justfile_round_trip.proofs.Items.CanonItems.{recipe_item, item_signs, end_signs, text_on, signs_from, signs}
 use Rattle.justfile_round_trip.proofs.Good.{GoodComment, GoodOptionalComment, EndedBody}
 use Rattle.justfile_round_trip.proofs.Attributes.GoodAttributes.{GoodEntries}
 use Rattle.justfile_round_trip.proofs.Items.GoodContents.{GoodContent, content_no_body}
@@ -31,17 +31,17 @@ module _ (limit : ℕ) (ind : List ℕ) (level : IsLevel ind) where
   -- it has no body whose lines would come after it
   unbodied : (c : Bool) (entries : List ShapeEntry) (content : ShapeContent) → GoodContent limit content → (items : Shape)
       → LexesTo (at_item c) (text_on ind (tree.Construct entries content ∷ items))
-      (item_marks (tree.Construct entries content) (end_marks (tree.Construct entries content) items (marks_from ind [] items)))
-      → LexesTo (at_item c) (text_on ind (tree.Construct entries content ∷ items)) (marks ind (tree.Construct entries content ∷ items))
+      (item_signs (tree.Construct entries content) (end_signs (tree.Construct entries content) items (signs_from ind [] items)))
+      → LexesTo (at_item c) (text_on ind (tree.Construct entries content ∷ items)) (signs ind (tree.Construct entries content ∷ items))
   unbodied c entries content h items r =
       let i = tree.Construct entries content in
-      subst (λ body. LexesTo (at_item c) (text_on ind (i ∷ items)) (item_marks i (end_marks i items (marks_from ind body items)))) (sym (content_no_body limit h)) r
+      subst (λ body. LexesTo (at_item c) (text_on ind (i ∷ items)) (item_signs i (end_signs i items (signs_from ind body items)))) (sym (content_no_body limit h)) r
 
   mutual
     unfolding class_of
 
     -- a colon that came before changes nothing here: no blank begins a line
-    pub lex_start : (c : Bool) {items : Shape} → AtStart limit items → LexesTo (at_item c) (text_on ind items) (marks ind items)
+    pub lex_start : (c : Bool) {items : Shape} → AtStart limit items → LexesTo (at_item c) (text_on ind items) (signs ind items)
     lex_start c good.end = at_end c
     lex_start c (good.newline more) = blank_line c (lex_start c more)
     lex_start c (good.comment {t = t} h more) = lex_end c t h more
@@ -52,7 +52,7 @@ module _ (limit : ℕ) (ind : List ℕ) (level : IsLevel ind) where
     -- a construct on one line, and the items after it
     lex_after : (c : Bool) (entries : List ShapeEntry) (content : ShapeContent) {items : Shape} → GoodEntries limit entries → GoodContent limit content
         → ItemRest limit items
-        → LexesTo (at_item c) (text_on ind (tree.Construct entries content ∷ items)) (marks ind (tree.Construct entries content ∷ items))
+        → LexesTo (at_item c) (text_on ind (tree.Construct entries content ∷ items)) (signs ind (tree.Construct entries content ∷ items))
     lex_after c entries content attributes h (good.trailing {t = t} commented (good.line_end {items = items} more)) =
         unbodied c entries content h (tree.Comment t ∷ tree.Newline ∷ items)
         (lex_entries limit c entries attributes (lex_content c limit h ind 32 refl refl refl (λ d f. trailing d f t commented (lex_start d more))))
@@ -63,7 +63,7 @@ module _ (limit : ℕ) (ind : List ℕ) (level : IsLevel ind) where
     -- a recipe with a body, the end of its last line, and the items after that
     lex_block : (c : Bool) (entries : List ShapeEntry) (header : ShapeHeader) (comment : Option (List ℕ)) (l : ShapeLine) (ls : List ShapeLine) {items : Shape}
         → GoodEntries limit entries → GoodHeader limit header → GoodOptionalComment comment → EndedBody limit (l ∷ ls) → AfterBody limit (l ∷ ls) items
-        → LexesTo (at_item c) (text_on ind (recipe_item entries header comment (l ∷ ls) ∷ items)) (marks ind (recipe_item entries header comment (l ∷ ls) ∷ items))
+        → LexesTo (at_item c) (text_on ind (recipe_item entries header comment (l ∷ ls) ∷ items)) (signs ind (recipe_item entries header comment (l ∷ ls) ∷ items))
     lex_block c entries header None l ls attributes h commented body (good.body_end follows last more) =
         lex_entries limit c entries attributes
         (lex_header c header 10 h.lexes refl refl refl
@@ -76,5 +76,5 @@ module _ (limit : ℕ) (ind : List ℕ) (level : IsLevel ind) where
 
     -- a comment, and the items after it
     lex_end : (c : Bool) (t : List ℕ) {items : Shape} → GoodComment t → AtEnd limit items
-        → LexesTo (at_item c) (text_on ind (tree.Comment t ∷ items)) (marks ind (tree.Comment t ∷ items))
+        → LexesTo (at_item c) (text_on ind (tree.Comment t ∷ items)) (signs ind (tree.Comment t ∷ items))
     lex_end c t h (good.line_end more) = item_comment c t h.comment (line_end c false (lex_start c more))

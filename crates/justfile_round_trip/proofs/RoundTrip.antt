@@ -35,12 +35,12 @@ use Rattle.justfile_model.proofs.Lexing.LexedLaws.{one_list}
 use Rattle.justfile_model.proofs.Derivations.Needs.{relimited}
 use Rattle.justfile_model.proofs.Printed.Normal.{normal_twice, normal_literals, normal_bindings, normal_recipes}
 use Rattle.justfile_round_trip.specs.RoundTrip.{TextDerives, times, ReadsBack, printed}
-use Rattle.justfile_round_trip.proofs.LiteralTexts.LexedModes.{Mark, placed, tok_at, toks, lexed}
+use Rattle.justfile_round_trip.proofs.LiteralTexts.LexedModes.{Sign, placed, tok_at, toks, lexed}
 use Rattle.justfile_model.proofs.Printed.PrintedItems.{AllPrintAgain, normal_again, rewritten_means, rewritten_texts, rewritten_unbroken, rewritten_undocumented, shape_again}
 use Rattle.justfile_model.proofs.Printed.PrintedLiterals.{texts_are_there, texts_of, texts_cook}
 use Rattle.justfile_model.proofs.Lexing.Spelled.{lexed_spelled}
 use Rattle.justfile_round_trip.proofs.Canon.{Shown}
-use Rattle.justfile_round_trip.proofs.Items.CanonItems.{text_on, marks, text_is}
+use Rattle.justfile_round_trip.proofs.Items.CanonItems.{text_on, signs, text_is}
 use Rattle.justfile_round_trip.proofs.Items.CountedItems.{documented_weight, normal_weight, shape_weight, undocumented_times, written_docs_weight}
 use Rattle.justfile_round_trip.proofs.DocsGood.{docs_good, start_comments}
 use Rattle.justfile_round_trip.proofs.DocsNormal.{normal_documented}
@@ -63,14 +63,14 @@ same_by true t u glued ts us k l more = more false
 same_by false t u glued ts us k l more = cons (record { kind = k; lexeme = l; glued = refl }) (more true)
 
 -- tokens with places are the same as those without
-placed_same : (source : List ℕ) (ts : List Mark) (offset : ℕ) (glued : Bool) → Pairs Same (significant glued ts) (significant_from glued (toks source offset ts))
+placed_same : (source : List ℕ) (ts : List Sign) (offset : ℕ) (glued : Bool) → Pairs Same (significant glued ts) (significant_from glued (toks source offset ts))
 placed_same source [] offset glued = cons (record { kind = refl; lexeme = refl; glued = refl }) nil
 placed_same source (t ∷ ts) offset glued = same_by (is_whitespace t.kind) (placed t 0 0 0) (tok_at source offset t) glued (unplaced ts) (toks source (offset + length t.lexeme) ts) refl refl (λ g. placed_same source ts (offset + length t.lexeme) g)
 
 -- ---- a good shape
 
 back_tokens : Shape → (indentation : List ℕ) → List Tok
-back_tokens s indentation = toks (text s indentation) 0 (marks indentation (docs_written s))
+back_tokens s indentation = toks (text s indentation) 0 (signs indentation (docs_written s))
 
 -- the printed text is that of the items with their docs as comments
 printed_text : (limit : ℕ) (s : Shape) (indentation : List ℕ) → AtStart limit (docs_written s) → text s indentation ≡ text_on indentation (docs_written s)
@@ -79,7 +79,7 @@ printed_text limit s indentation h = text_written indentation s ∙ text_is (doc
 good_lexed : (limit : ℕ) (s : Shape) (indentation : List ℕ) → IsLevel indentation → AtStart limit (docs_written s) → Lexed (text s indentation) (back_tokens s indentation)
 unfolding back_tokens
 good_lexed limit s indentation i h =
-    let ts = marks indentation (docs_written s) in
+    let ts = signs indentation (docs_written s) in
     subst (λ x. Lexed x (toks x 0 ts)) (sym (printed_text limit s indentation h)) (lexed (text_on indentation (docs_written s)) ts (lex_start limit indentation i false h))
 
 good_file : (limit : ℕ) (s : Shape) (indentation : List ℕ) → AtStart limit (docs_written s)
@@ -87,7 +87,7 @@ good_file : (limit : ℕ) (s : Shape) (indentation : List ℕ) → AtStart limit
 unfolding back_tokens
 good_file limit s indentation h =
     let found = derive_start limit indentation h false in
-    (found.0, elsewhere limit (g.without_byte_order_mark found.1) (placed_same (text s indentation) (marks indentation (docs_written s)) 0 false))
+    (found.0, elsewhere limit (g.without_byte_order_mark found.1) (placed_same (text s indentation) (signs indentation (docs_written s)) 0 false))
 
 -- features are noted as often without their places
 times_over : {A B : Type 0} (f : A → B) (feature : ListFeature) (ns : List (Noted A)) → times feature (map (over_noted f) ns) ≡ times feature ns

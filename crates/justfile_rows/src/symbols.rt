@@ -2,12 +2,12 @@
 
 use justfile_syntax::ast::Ast;
 use justfile_syntax::outline::symbols;
-use justfile_syntax::parser::{Reader, parse_root, read_root, release};
+use justfile_syntax::parser::{Inspector, inspect_root, parse_root, release};
 use row_items::symbols::{push_outline, push_symbols};
 use row_notation::{Answer, push_fault};
 
 /// Writes the symbols of a text. Writes `parsed` and what is found if the outline of the parsed
-/// file has others, and `read` if the file that is lent to a reader does.
+/// file has others, and `read` if the file that is lent to an inspector does.
 pub(crate) fn push_symbols_of(answer: &mut Answer, text: &str) {
     let mut found = Answer::new(answer.alloc());
     match symbols(answer.alloc(), "justfile", text) {
@@ -19,7 +19,7 @@ pub(crate) fn push_symbols_of(answer: &mut Answer, text: &str) {
     push_parsed(&mut parsed, text);
     answer.push_unless("parsed", &parsed, &found);
     let mut read = Answer::new(answer.alloc());
-    push_read(&mut read, text);
+    push_inspected(&mut read, text);
     answer.push_unless("read", &read, &found);
 }
 
@@ -39,26 +39,26 @@ fn push_file(ast: &mut Ast<'_>, answer: &mut Answer) {
     push_outline(&ast.items, answer);
 }
 
-/// A reader that writes the outline of a file.
+/// An inspector that writes the outline of a file.
 #[derive(Drop)]
 struct Outliner {
     answer: Answer,
 }
 
-impl Reader for Outliner {
-    ghost reads = { λ _ _ _. Unit {0} };
+impl Inspector for Outliner {
+    ghost inspects = { λ _ _ _. Unit {0} };
 
-    fn read(ast: &Ast<'_>, reader: &mut Self) {
-        push_outline(&ast.items, &mut reader.answer);
+    fn inspect(ast: &Ast<'_>, inspector: &mut Self) {
+        push_outline(&ast.items, &mut inspector.answer);
     }
 }
 
-/// Writes the outline of a text's file, which is lent to a reader.
-fn push_read(answer: &mut Answer, text: &str) {
+/// Writes the outline of a text's file, which is lent to an inspector.
+fn push_inspected(answer: &mut Answer, text: &str) {
     let mut outliner = Outliner {
         answer: Answer::new(answer.alloc()),
     };
-    match read_root(answer.alloc(), "justfile", text, &mut outliner) {
+    match inspect_root(answer.alloc(), "justfile", text, &mut outliner) {
         Ok(()) => answer.push_all(&outliner.answer),
         Err(fault) => push_fault(answer, text, &fault),
     }

@@ -6,7 +6,7 @@ use Rattle.justfile_item.specs.declared.item.Item.{Item}
 use Rattle.justfile_ast.specs.declared.ast.Ast.{Ast}
 use Rattle.justfile_canonical.specs.Root.{HasNoRoot, IsRoot}
 use Rattle.justfile_token.specs.declared.fault.Fault.{Fault}
-use Rattle.justfile_server.specs.Links.{given, given_in, parsed, refused, HasGiven}
+use Rattle.justfile_server.specs.Links.{given, given_in, parsed, rejected, HasGiven}
 
 -- among items from one on: by that item and the others
 from_item : (items : List Item) (i : ℕ) (item : Item) → i < length items → item ≡ get_or items i item
@@ -24,4 +24,4 @@ pub with_tree : (text : List ℕ) (path : Option (List ℕ)) → (ast : Ast) × 
 with_tree text path h = parsed h.0 h.1 h.2
 
 pub without_tree : (text : List ℕ) (fault : Fault) → HasNoRoot (codes "justfile") text fault → HasGiven text None
-without_tree text fault h = refused fault h refl
+without_tree text fault h = rejected fault h refl

@@ -30,7 +30,7 @@ given_in (item ∷ items) = option_or (given item) (given_in items)
 -- the path that the module in a text is given, by the text's tree
 pub data HasGiven (text : List ℕ) (path : Option (List ℕ)) : Type 0 where
   parsed : (ast : Ast) → IsRoot (codes "justfile") text ast → path ≡ given_in ast.items.items → HasGiven text path
-  refused : (fault : Fault) → HasNoRoot (codes "justfile") text fault → path ≡ None → HasGiven text path
+  rejected : (fault : Fault) → HasNoRoot (codes "justfile") text fault → path ≡ None → HasGiven text path
 
 -- the text from one offset up to another one is a part of the text
 abbrev pub HasPart : (text : List ℕ) (start end : ℕ) → Type 0

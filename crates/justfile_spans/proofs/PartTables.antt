@@ -10,7 +10,7 @@ use Rattle.justfile_vocabulary.specs.declared.token_kind.TokenKind.TheVariants a
 use Rattle.justfile_token.specs.declared.token.Token.{Token}
 use Rattle.justfile_model.specs.Lexing.Lexed.{Lexed}
 use Rattle.justfile_model.specs.Lexing.Modes.{mode}
-use Rattle.justfile_model.specs.Lexing.SignificantTokens.{SignificantToken, TableEntry, is_whitespace, significant_from, significant_of, significant_tokens}
+use Rattle.justfile_model.specs.Lexing.SignificantTokens.{SignificantToken, TableToken, is_whitespace, significant_from, significant_of, significant_tokens}
 use Rattle.justfile_model.specs.Lexing.Tok.{Tok, tok_of}
 use Rattle.justfile_chunks_grammar.specs.Chunks.{IsCut, IsCutAfter, line_kind, next_kind}
 use Rattle.justfile_chunks.proofs.AllCuts.{onto_reverse}
@@ -21,14 +21,14 @@ use Rattle.justfile_spans.specs.Cuts.{depth_after, is_cut, line_after}
 use Rattle.justfile_spans.specs.PartTables.{IsCutOff, IsTested, depth_from, depth_past, line_from, line_past}
 use Rattle.justfile_spans.proofs.CutTests.{cut_by, depth_grows, levels_are, line_is}
 
--- ---- the tokens of entries
+-- ---- the tokens of a table
 
 -- whether the next token is glued to these, where the flag says it of the first one
 abbrev glued_after : Bool → List Tok → Bool
 glued_after glued [] = glued
 glued_after glued (t ∷ ts) = glued_after (not (is_whitespace t.kind)) ts
 
--- the token of an entry, and those before and after it
+-- a significant token, and those before and after it
 record Found (glued : Bool) (tokens : List Tok) (before after : List SignificantToken) (s : SignificantToken) : Type 0 where
   front : List Tok
   rest : List Tok
@@ -46,7 +46,7 @@ none_found : (before after : List SignificantToken) (s : SignificantToken) → [
 none_found [] after s e = cc
 none_found (b ∷ before) after s e = cc
 
--- the first token has an entry, or is whitespace
+-- the first token is significant, or whitespace
 module _ (t : Tok) (ts : List Tok) (later : Finds ts) (glued : Bool) where
   abbrev first : SignificantToken
   first = record { tok = t; glued = glued }
@@ -97,7 +97,7 @@ find : (glued : Bool) (tokens : List Tok) (before after : List SignificantToken)
 find glued [] before after s e = absurd (none_found before after s e)
 find glued (t ∷ ts) before after s e = found_by t ts (λ g b a r f. find g ts b a r f) glued (is_whitespace t.kind) refl before after s e
 
--- ---- tokens without entries
+-- ---- tokens that are whitespace
 
 -- such a token is whitespace, and so are those after it
 record White (t : Tok) (ts : List Tok) : Type 0 where
@@ -146,10 +146,10 @@ glued_past : (front : List Tok) (glued : Bool) (t : Tok) (rest : List Tok) → g
 glued_past [] glued t rest = refl
 glued_past (u ∷ front) glued t rest = glued_past front (not (is_whitespace u.kind)) t rest
 
-entries_of : (ts : List Tok) (glued : Bool) (t : Tok) → is_whitespace t.kind ≡ false
+significant_of_last : (ts : List Tok) (glued : Bool) (t : Tok) → is_whitespace t.kind ≡ false
     → significant_from glued (ts ++ (t ∷ [])) ≡ significant_from glued ts ++ (record { tok = t; glued = glued_after glued ts } ∷ [])
-entries_of [] glued t d = ap (λ x. cond x [] (record { tok = t; glued = glued } ∷ [])) d
-entries_of (u ∷ ts) glued t d = by (entries_of ts false t d) (entries_of ts true t d) (is_whitespace u.kind)
+significant_of_last [] glued t d = ap (λ x. cond x [] (record { tok = t; glued = glued } ∷ [])) d
+significant_of_last (u ∷ ts) glued t d = by (significant_of_last ts false t d) (significant_of_last ts true t d) (is_whitespace u.kind)
   where
     by : significant_from false (ts ++ (t ∷ [])) ≡ significant_from false ts ++ (record { tok = t; glued = glued_after false ts } ∷ [])
         → significant_from true (ts ++ (t ∷ [])) ≡ significant_from true ts ++ (record { tok = t; glued = glued_after true ts } ∷ [])
@@ -158,7 +158,7 @@ entries_of (u ∷ ts) glued t d = by (entries_of ts false t d) (entries_of ts tr
     by apart next true = apart
     by apart next false = ap (λ l. record { tok = u; glued = glued } ∷ l) next
 
--- ---- what a loop over the entries knows
+-- ---- what a loop over the table knows
 
 depth_white : (k : TokenKind) → is_whitespace k ≡ true → (depth : ℕ) → depth_after k depth ≡ depth
 depth_white kinds.Whitespace e depth = refl
@@ -187,11 +187,11 @@ known_white depth line earlier t w h =
     record { depth_is = sym (depth_white t.kind w depth) ∙ k.depth_is; line_is = sym (line_white t.kind w line) ∙ k.line_is }
 
 abbrev Knows : List Tok → Type 0
-Knows ts = (earlier : List Tok) (glued : Bool) (xs : List TableEntry) (depth : ℕ) (line : Option TokenKind) → significant_from glued ts ≡ map significant_of xs
+Knows ts = (earlier : List Tok) (glued : Bool) (xs : List TableToken) (depth : ℕ) (line : Option TokenKind) → significant_from glued ts ≡ map significant_of xs
     → Known depth line earlier → Known (depth_from depth xs) (line_from line xs) (onto earlier ts)
 
 module _ (t : Tok) (ts : List Tok) (later : Knows ts) (earlier : List Tok) (glued : Bool) (depth : ℕ) (line : Option TokenKind) (h : Known depth line earlier) where
-  known_first : (xs : List TableEntry) → record { tok = t; glued = glued } ∷ significant_from true ts ≡ map significant_of xs
+  known_first : (xs : List TableToken) → record { tok = t; glued = glued } ∷ significant_from true ts ≡ map significant_of xs
       → Known (depth_from depth xs) (line_from line xs) (onto (t ∷ earlier) ts)
   known_first [] e = absurd cc
   known_first (x ∷ xs) e =
@@ -200,13 +200,13 @@ module _ (t : Tok) (ts : List Tok) (later : Knows ts) (earlier : List Tok) (glue
       later (t ∷ earlier) true xs (depth_after x.0.kind depth) (line_after x.0.kind line) p.1
       (subst (λ k. Known (depth_after k depth) (line_after k line) (t ∷ earlier)) kind (known_more depth line earlier t h))
 
-  known_by : (w : Bool) → is_whitespace t.kind ≡ w → (xs : List TableEntry)
+  known_by : (w : Bool) → is_whitespace t.kind ≡ w → (xs : List TableToken)
       → cond w (significant_from false ts) (record { tok = t; glued = glued } ∷ significant_from true ts) ≡ map significant_of xs
       → Known (depth_from depth xs) (line_from line xs) (onto (t ∷ earlier) ts)
   known_by true w xs e = later (t ∷ earlier) false xs depth line e (known_white depth line earlier t w h)
   known_by false w xs e = known_first xs e
 
-known : (ts earlier : List Tok) (glued : Bool) (xs : List TableEntry) (depth : ℕ) (line : Option TokenKind) → significant_from glued ts ≡ map significant_of xs
+known : (ts earlier : List Tok) (glued : Bool) (xs : List TableToken) (depth : ℕ) (line : Option TokenKind) → significant_from glued ts ≡ map significant_of xs
     → Known depth line earlier → Known (depth_from depth xs) (line_from line xs) (onto earlier ts)
 known [] earlier glued [] depth line e h = h
 known [] earlier glued (x ∷ xs) depth line e h = absurd cc
@@ -225,7 +225,7 @@ reversed ts t = sym (append-nil (reverse (ts ++ (t ∷ [])))) ∙ onto_reverse (
 byte_long : (t : Token) → length (tok_of t).lexeme ≡ t.length
 byte_long t = length-take-le t.length (drop t.offset t.src.now) (omega (arith, t.in_source.0, length-drop t.offset t.src.now))
 
-module _ (table : List TableEntry) (tested : IsTested table) (tokens : List Tok) (ends : EndsOnce tokens) (empty : EndsEmpty tokens) (marked : map significant_of table ≡ significant_tokens tokens) where
+module _ (table : List TableToken) (tested : IsTested table) (tokens : List Tok) (ends : EndsOnce tokens) (empty : EndsEmpty tokens) (marked : map significant_of table ≡ significant_tokens tokens) where
   abbrev before : List SignificantToken
   before = map significant_of tested.others
 
@@ -238,13 +238,13 @@ module _ (table : List TableEntry) (tested : IsTested table) (tokens : List Tok)
   abbrev end : SignificantToken
   end = significant_of (tested.end, true)
 
-  entries : significant_tokens tokens ≡ (before ++ (last ∷ [])) ++ (next ∷ (end ∷ []))
-  entries =
+  is_split : significant_tokens tokens ≡ (before ++ (last ∷ [])) ++ (next ∷ (end ∷ []))
+  is_split =
       sym marked ∙ ap (map significant_of) tested.are ∙ map-append significant_of tested.others (tested.last ∷ (tested.next, true) ∷ (tested.end, true) ∷ [])
       ∙ sym (append_assoc before (last ∷ []) (next ∷ (end ∷ [])))
 
   at_next : Found false tokens (before ++ (last ∷ [])) (end ∷ []) next
-  at_next = find false tokens (before ++ (last ∷ [])) (end ∷ []) next entries
+  at_next = find false tokens (before ++ (last ∷ [])) (end ∷ []) next is_split
 
   at_end : Found true at_next.rest [] [] end
   at_end = find true at_next.rest [] [] end (sym at_next.rest_is)
@@ -299,8 +299,8 @@ module _ (table : List TableEntry) (tested : IsTested table) (tokens : List Tok)
   is_cut_there : IsCut (reverse at_next.front) (next.tok ∷ end.tok ∷ [])
   is_cut_there = subst (λ e. IsCut e (next.tok ∷ end.tok ∷ [])) (sym (ap reverse part_is ∙ reversed at_last.front last.tok)) is_after
 
-  -- the table without the last entry but one
-  abbrev left : List TableEntry
+  -- the table without its last token but one
+  abbrev left : List TableToken
   left = tested.others ++ (tested.last ∷ (tested.end, true) ∷ [])
 
   left_is : remove table (length table - 2) ≡ left
@@ -316,9 +316,9 @@ module _ (table : List TableEntry) (tested : IsTested table) (tokens : List Tok)
       map-append significant_of tested.others (tested.last ∷ (tested.end, true) ∷ [])
       ∙ sym (append_assoc before (last ∷ []) (end ∷ []))
       ∙ (λ i. sym at_next.front_is i ++ (record { tok = end.tok; glued = at_next.glued_is i } ∷ []))
-      ∙ sym (entries_of at_next.front false end.tok at_end.dark)
+      ∙ sym (significant_of_last at_next.front false end.tok at_end.dark)
 
-  pub cut_off : (after : List TableEntry) → after ≡ remove table (length table - 2) → IsCutOff tokens (map significant_of after)
+  pub cut_off : (after : List TableToken) → after ≡ remove table (length table - 2) → IsCutOff tokens (map significant_of after)
   cut_off after e = record {
     part = at_next.front;
     next = next.tok;
@@ -329,30 +329,30 @@ module _ (table : List TableEntry) (tested : IsTested table) (tokens : List Tok)
     seen = at_next.dark;
     is_end = is_end;
     is_empty = is_empty;
-    entries_are = ap (map significant_of) (e ∙ left_is) ∙ left_marked;
+    significant_are = ap (map significant_of) (e ∙ left_is) ∙ left_marked;
   }
 
 -- the tokens of a text end once, with nothing
 pub ends_once : (text : List ℕ) (tokens : List Tok) → IsUtf8 text → Lexed text tokens → EndsOnce tokens × EndsEmpty tokens
 ends_once text tokens u l = let h = from_start text tokens u l in (h.ends, h.empty)
 
--- ---- the loop over the entries
+-- ---- the loop over the table
 
-depth_more : (depth : ℕ) (xs : List TableEntry) (x : TableEntry) → depth_from depth (xs ++ (x ∷ [])) ≡ depth_after x.0.kind (depth_from depth xs)
+depth_more : (depth : ℕ) (xs : List TableToken) (x : TableToken) → depth_from depth (xs ++ (x ∷ [])) ≡ depth_after x.0.kind (depth_from depth xs)
 depth_more depth [] x = refl
 depth_more depth (y ∷ xs) x = depth_more (depth_after y.0.kind depth) xs x
 
-line_more : (line : Option TokenKind) (xs : List TableEntry) (x : TableEntry) → line_from line (xs ++ (x ∷ [])) ≡ line_after x.0.kind (line_from line xs)
+line_more : (line : Option TokenKind) (xs : List TableToken) (x : TableToken) → line_from line (xs ++ (x ∷ [])) ≡ line_after x.0.kind (line_from line xs)
 line_more line [] x = refl
 line_more line (y ∷ xs) x = line_more (line_after y.0.kind line) xs x
 
--- what is known before the entry of an index
-pub record KnownTo (others : List TableEntry) (n depth : ℕ) (line : Option TokenKind) : Type 0 where
+-- what is known before the token of an index
+pub record KnownTo (others : List TableToken) (n depth : ℕ) (line : Option TokenKind) : Type 0 where
   pub depth_is : depth ≡ depth_past (take n others)
   pub line_is : line ≡ line_past (take n others)
   pub within : depth ≤ n
 
-pub known_next : (others : List TableEntry) (n depth : ℕ) (line : Option TokenKind) (x : TableEntry) → n < length others → x ≡ get_or others n x → KnownTo others n depth line
+pub known_next : (others : List TableToken) (n depth : ℕ) (line : Option TokenKind) (x : TableToken) → n < length others → x ≡ get_or others n x → KnownTo others n depth line
     → KnownTo others (n + 1) (depth_after x.0.kind depth) (line_after x.0.kind line)
 known_next others n depth line x h e k =
     let one : take (n + 1) others ≡ take n others ++ (x ∷ []) = take_more others n x h ∙ ap (λ y. take n others ++ (y ∷ [])) (sym e) in
@@ -362,10 +362,10 @@ known_next others n depth line x h e k =
       within = omega (arith, depth_grows x.0.kind depth, k.within);
     }
 
--- ---- the entries at the end
+-- ---- the tokens at the end
 
 -- the last three of them
-pub tested : (table front part others : List TableEntry) (last next end : TableEntry)
+pub tested : (table front part others : List TableToken) (last next end : TableToken)
     → table ≡ front ++ (end ∷ []) → front ≡ part ++ (next ∷ []) → part ≡ others ++ (last ∷ []) → end.1 ≡ true → next.1 ≡ true → next.0.length ≡ 1
     → is_cut last.0.kind (depth_after last.0.kind (depth_past others)) (line_past others) (Some next.0.kind) ≡ true → IsTested table
 tested table front part others last next end e f g end_glued glued long cut = record {

@@ -57,7 +57,7 @@ pub fn take_next(table: &mut Vec<(Token<'_>, bool)>) -> bool
     true
 }
 
-/// Whether the last entry but one is one byte, and the text is cut before it.
+/// Whether the last token but one is one byte, and the text is cut before it.
 fn ends_cut(table: &[(Token<'_>, bool)]) -> bool
     ensures { IsTrue result → IsTested table.now }
 {

@@ -12,7 +12,7 @@ use Rattle.justfile_canonical.specs.Root.{HasNoRoot, IsRoot, conditions}
 use Rattle.justfile_recovery.specs.Places.{LiesIn}
 use Rattle.justfile_survey.specs.Seen.{PlacesIn, seen}
 use Rattle.justfile_survey.specs.Parts.{BeginsWith, ErrorsIn}
-use Rattle.justfile_survey.specs.Surveys.{IsFound, IsJustfile, IsOfFault, IsRefused, IsSurvey, IsWhole, Shows, TellsWhy}
+use Rattle.justfile_survey.specs.Surveys.{IsFound, IsJustfile, IsOfFault, IsRejected, IsSurvey, IsWhole, Shows, TellsWhy}
 use Rattle.justfile_survey.specs.declared.surveys.Survey.{Survey}
 use Rattle.justfile_survey.specs.declared.surveys.SurveyedError.{SurveyedError}
 use Rattle.justfile_survey.specs.declared.whole.Whole.{Whole}
@@ -21,7 +21,7 @@ use Rattle.justfile_survey.specs.declared.whole.Whole.TheVariants as wholes
 -- a justfile's items
 pub shown : (path text : List ℕ) (ast : Ast) (whole : Whole) → IsRoot path text ast → IsJustfile (length text) ast whole → IsWhole path text whole
 shown path text ast (wholes.Justfile items) root is = (record { ast = ast; root = root; views_are = is.0 }, is.1)
-shown path text ast (wholes.Refused error) root is = absurd is
+shown path text ast (wholes.Rejected error) root is = absurd is
 
 pub shown_if_ok : {E : Type 0} (path text : List ℕ) (ast : Ast) (r : Result Whole E) → IsRoot path text ast → IfOk r (IsJustfile (length text) ast) → IfOk r (IsWhole path text)
 shown_if_ok path text ast (Ok whole) root is = shown path text ast whole root is
@@ -38,18 +38,18 @@ error_in path text (Compile e) s root says = in_text path text e s root.old root
 error_in path text Memory s root says = absurd says
 error_in path text Numbers s root says = subst (LiesIn (length text)) (sym says.span_is) (record { forward = omega arith; within = omega arith })
 
--- the error for which a text is refused
-pub refused : (path text : List ℕ) (fault : Fault) (whole : Whole) → HasNoRoot path text fault → IsRefused fault whole → IsWhole path text whole
-refused path text fault (wholes.Justfile items) root is = absurd is
-refused path text fault (wholes.Refused error) root is = (record { fault = fault; no_root = root; is = is }, error_in path text fault error root is)
+-- the error for which a text is rejected
+pub rejected : (path text : List ℕ) (fault : Fault) (whole : Whole) → HasNoRoot path text fault → IsRejected fault whole → IsWhole path text whole
+rejected path text fault (wholes.Justfile items) root is = absurd is
+rejected path text fault (wholes.Rejected error) root is = (record { fault = fault; no_root = root; is = is }, error_in path text fault error root is)
 
-pub refused_if_ok : {E : Type 0} (path text : List ℕ) (fault : Fault) (r : Result Whole E) → HasNoRoot path text fault → IfOk r (IsRefused fault) → IfOk r (IsWhole path text)
-refused_if_ok path text fault (Ok whole) root is = refused path text fault whole root is
-refused_if_ok path text fault (Err e) root is = tt
+pub rejected_if_ok : {E : Type 0} (path text : List ℕ) (fault : Fault) (r : Result Whole E) → HasNoRoot path text fault → IfOk r (IsRejected fault) → IfOk r (IsWhole path text)
+rejected_if_ok path text fault (Ok whole) root is = rejected path text fault whole root is
+rejected_if_ok path text fault (Err e) root is = tt
 
--- what is refused for a fault is refused for the same one
-pub same_fault : {E : Type 0} (fault other : Fault) (r : Result Whole E) → fault ≡ other → IfOk r (IsRefused other) → IfOk r (IsRefused fault)
-same_fault fault other r same is = subst (λ f. IfOk r (IsRefused f)) (sym same) is
+-- what is rejected for a fault is rejected for the same one
+pub same_fault : {E : Type 0} (fault other : Fault) (r : Result Whole E) → fault ≡ other → IfOk r (IsRejected other) → IfOk r (IsRejected fault)
+same_fault fault other r same is = subst (λ f. IfOk r (IsRejected f)) (sym same) is
 
 -- a survey that begins with the error of the text
 pub told : (path text : List ℕ) (s : Survey) (first : SurveyedError) → TellsWhy path text first → BeginsWith path text first s → IsSurvey path text s

@@ -8,7 +8,7 @@ use Rattle.justfile_spans.specs.declared.span.Span.{Span}
 use Rattle.justfile_ast.specs.declared.ast.Ast.{Ast}
 use Rattle.justfile_survey.specs.Parts.{AddsPart, AreOfParts, BeginsWith, ErrorsIn, IsFileOfPart, IsFoundBefore, Parses, seen_in}
 use Rattle.justfile_survey.specs.Seen.{Adds, PlacesIn, Seen, seen}
-use Rattle.justfile_survey.specs.declared.errors.Refusal.{Refusal}
+use Rattle.justfile_survey.specs.declared.errors.Rejection.{Rejection}
 use Rattle.justfile_survey.specs.declared.recovery.Found.{Found}
 use Rattle.justfile_survey.specs.declared.surveys.Survey.{Survey}
 use Rattle.justfile_survey.specs.declared.surveys.SurveyedError.{SurveyedError}
@@ -82,16 +82,16 @@ module _ (path text : List ℕ) where
       with_items old new a b lines ast are errors (omega (arith, from, first)) (omega (arith, to, last)) within is adds
 
   -- a part was parsed
-  pub parsed : (old new : Found) (a b : ℕ) (part : Span) (r : Option Refusal) → IsFoundBefore path text a old → new.errors.items ≡ old.errors.items → a ≤ part.start
+  pub parsed : (old new : Found) (a b : ℕ) (part : Span) (r : Option Rejection) → IsFoundBefore path text a old → new.errors.items ≡ old.errors.items → a ≤ part.start
       → part.start ≤ part.end → part.end ≤ b → b ≤ length text → Parses path text part new.items.items old.items.items r → IsFoundBefore path text b new
   parsed old new a b part None are errors from forward to within parses = added old new a b part are errors from forward to within parses
-  parsed old new a b part (Some refusal) are errors from forward to within parses = later old new a b are parses.0 errors (omega (arith, from, forward, to)) within
+  parsed old new a b part (Some rejection) are errors from forward to within parses = later old new a b are parses.0 errors (omega (arith, from, forward, to)) within
 
-  -- a part was refused
-  pub refused : (old new : Found) (a : ℕ) (part : Span) (r : Option Refusal) (refusal : Refusal) → IsFoundBefore path text a old → new.errors.items ≡ old.errors.items
-      → r ≡ Some refusal → Parses path text part new.items.items old.items.items r → IsFoundBefore path text a new
-  refused old new a part r refusal are errors is parses =
-      let same : Parses path text part new.items.items old.items.items (Some refusal) = subst (Parses path text part new.items.items old.items.items) is parses in
+  -- a part was rejected
+  pub rejected : (old new : Found) (a : ℕ) (part : Span) (r : Option Rejection) (rejection : Rejection) → IsFoundBefore path text a old → new.errors.items ≡ old.errors.items
+      → r ≡ Some rejection → Parses path text part new.items.items old.items.items r → IsFoundBefore path text a new
+  rejected old new a part r rejection are errors is parses =
+      let same : Parses path text part new.items.items old.items.items (Some rejection) = subst (Parses path text part new.items.items old.items.items) is parses in
       later old new a a are same.0 errors (omega arith) are.within
 
   -- the survey with an error before the others

@@ -7,7 +7,7 @@ use Rattle.justfile_spans.specs.Spans.{text_from_feed}
 use Rattle.justfile_spans.specs.declared.span.Span.{Span}
 use Rattle.justfile_survey.specs.Items.{file_seen}
 use Rattle.justfile_survey.specs.Seen.{Adds, PlacesIn, Seen, seen}
-use Rattle.justfile_survey.specs.declared.errors.Refusal.{Refusal}
+use Rattle.justfile_survey.specs.declared.errors.Rejection.{Rejection}
 use Rattle.justfile_survey.specs.declared.recovery.Found.{Found}
 use Rattle.justfile_survey.specs.declared.surveys.Survey.{Survey}
 use Rattle.justfile_survey.specs.declared.surveys.SurveyedError.{SurveyedError}
@@ -47,15 +47,15 @@ pub data AddsPart (path text : List ℕ) (part : Span) (new old : List SurveyedI
   file : (lines : Span) (ast : Ast) → part.start ≤ lines.start → lines.end ≤ part.end → IsFileOfPart path text lines ast
       → Adds (length text) new old (seen_in text lines ast) → AddsPart path text part new old
 
--- what parsing a part does: its items are appended, or it is refused for an error in the text
-abbrev pub Parses : (path text : List ℕ) → Span → (new old : List SurveyedItem) → Option Refusal → Type 0
+-- what parsing a part does: its items are appended, or it is rejected for an error in the text
+abbrev pub Parses : (path text : List ℕ) → Span → (new old : List SurveyedItem) → Option Rejection → Type 0
 Parses path text part new old None = AddsPart path text part new old
-Parses path text part new old (Some refusal) = (new ≡ old) × LiesIn (length text) refusal.error.span
+Parses path text part new old (Some rejection) = (new ≡ old) × LiesIn (length text) rejection.error.span
 
--- a file's items were appended, and there is no refusal
-abbrev pub AddsFile : (length base : ℕ) (new old : List SurveyedItem) → Ast → Option Refusal → Type 0
+-- a file's items were appended, and there is no rejection
+abbrev pub AddsFile : (length base : ℕ) (new old : List SurveyedItem) → Ast → Option Rejection → Type 0
 AddsFile length base new old ast None = Adds length new old (file_seen length base ast)
-AddsFile length base new old ast (Some refusal) = ⊥
+AddsFile length base new old ast (Some rejection) = ⊥
 
 -- where to go on after a part: past its end, with what was found up to there; or nowhere, with what was found before it
 abbrev pub GoesOn : (path text : List ℕ) → Span → Found → Option ℕ → Type 0

@@ -10,7 +10,7 @@ use Rattle.justfile_spans.specs.Spans.{span}
 use Rattle.justfile_survey.specs.Items.{file_seen}
 use Rattle.justfile_survey.specs.Parts.{AreOfParts, ErrorsIn}
 use Rattle.justfile_survey.specs.Seen.{PlacesIn, Seen, seen}
-use Rattle.justfile_survey.specs.declared.errors.Refusal.{Refusal}
+use Rattle.justfile_survey.specs.declared.errors.Rejection.{Rejection}
 use Rattle.justfile_survey.specs.declared.surveys.Survey.{Survey}
 use Rattle.justfile_survey.specs.declared.surveys.SurveyedError.{SurveyedError}
 use Rattle.justfile_survey.specs.declared.surveys.SurveyedItem.{SurveyedItem}
@@ -45,21 +45,21 @@ pub record TellsWhy (path text : List ℕ) (s : SurveyedError) : Type 0 where
 -- the items of a file of a text of this length
 abbrev pub IsJustfile : (length : ℕ) → Ast → Whole → Type 0
 IsJustfile length ast (wholes.Justfile items) = (map seen items.items ≡ file_seen length 0 ast) × All (PlacesIn length) items.items
-IsJustfile length ast (wholes.Refused error) = ⊥
+IsJustfile length ast (wholes.Rejected error) = ⊥
 
 -- the error for a fault
-abbrev pub IsRefused : Fault → Whole → Type 0
-IsRefused fault (wholes.Justfile items) = ⊥
-IsRefused fault (wholes.Refused error) = IsOfFault fault error
+abbrev pub IsRejected : Fault → Whole → Type 0
+IsRejected fault (wholes.Justfile items) = ⊥
+IsRejected fault (wholes.Rejected error) = IsOfFault fault error
 
--- the refusal of a part of a text of this length is in it
-abbrev pub IsRefusalIn : (length : ℕ) → Option Refusal → Type 0
-IsRefusalIn length refusal = IfSome refusal (λ r. LiesIn length r.error.span)
+-- the rejection of a part of a text of this length is in it
+abbrev pub IsRejectionIn : (length : ℕ) → Option Rejection → Type 0
+IsRejectionIn length rejection = IfSome rejection (λ r. LiesIn length r.error.span)
 
 -- what a text is as a whole
 abbrev pub IsWhole : (path text : List ℕ) → Whole → Type 0
 IsWhole path text (wholes.Justfile items) = Shows path text (map seen items.items) × All (PlacesIn (length text)) items.items
-IsWhole path text (wholes.Refused error) = TellsWhy path text error × LiesIn (length text) error.span
+IsWhole path text (wholes.Rejected error) = TellsWhy path text error × LiesIn (length text) error.span
 
 -- Without errors the text is a justfile, and the survey shows its items. Otherwise it is none, the first error tells why, and the survey
 -- shows the items of parts of the text.

@@ -13,9 +13,9 @@ use justfile_token::{CompileError, CompileErrorKind, Token};
 use justfile_vocabulary::TokenKind;
 use std::alloc::{AllocError, Global};
 
-/// Why a part of a text is refused.
+/// Why a part of a text is rejected.
 #[derive(Drop)]
-pub(crate) struct Refusal {
+pub(crate) struct Rejection {
     pub(crate) error: SurveyedError,
     /// Whether the part ends too early: it may be right together with what follows it.
     pub(crate) ends_early: bool,
@@ -41,14 +41,14 @@ pub(crate) fn error_of_text(
     })
 }
 
-/// Returns why the part of a text that begins at `base` is refused, for an error of the part.
-pub(crate) fn refusal_of_part(
+/// Returns why the part of a text that begins at `base` is rejected, for an error of the part.
+pub(crate) fn rejection_of_part(
     alloc: Global,
     source: Source<'_>,
     base: usize,
     error: &mut CompileError<'_>,
-) -> Result<Refusal, AllocError>
-    ensures { IfOk result (λ refusal. LiesIn (length source.entry.text.now) refusal.error.span) }
+) -> Result<Rejection, AllocError>
+    ensures { IfOk result (λ rejection. LiesIn (length source.entry.text.now) rejection.error.span) }
 {
     let ends_early = ends_early(error);
     let bytes = source.text.as_bytes();
@@ -56,7 +56,7 @@ pub(crate) fn refusal_of_part(
     move_lines(&mut error.kind, source.feeds);
     error.token.line = error.token.line.saturating_add(source.feeds);
     let message = error.to_string(alloc)?;
-    Ok(Refusal {
+    Ok(Rejection {
         error: SurveyedError {
             span,
             line: source

@@ -3,9 +3,9 @@ ghost use Rattle.std.specs.Prelude.{◌≡◌, ◌-◌, IfOk, length};
 ghost use Rattle.justfile_recovery.specs.Places.{LiesIn};
 ghost use Rattle.justfile_spans.specs.Spans.{text_from_feed};
 ghost use Rattle.justfile_survey.specs.Parts.{AddsFile, Parses};
-ghost use Rattle.justfile_survey.specs.Surveys.{IsRefusalIn};
+ghost use Rattle.justfile_survey.specs.Surveys.{IsRejectionIn};
 
-use crate::errors::{Refusal, refusal_of_part};
+use crate::errors::{Rejection, rejection_of_part};
 use crate::items::push_items;
 use crate::part::Part;
 use crate::surveys::SurveyedItem;
@@ -50,14 +50,14 @@ struct Piece<'a> {
 }
 
 /// Parses a part of a text, from the line feed before it on, and adds its items. Returns why it is
-/// refused, if it is.
+/// rejected, if it is.
 pub(crate) fn parse(
     source: Source<'_>,
     alloc: Global,
     part: Span,
     cut: Cut,
     items: &mut Vec<SurveyedItem>,
-) -> Result<Option<Refusal>, AllocError>
+) -> Result<Option<Rejection>, AllocError>
     requires { LiesIn (length source.text.now) part }
     ensures { IfOk result (Parses source.entry.path.now source.entry.text.now part
         items.new.items items.old.items) }
@@ -83,13 +83,13 @@ pub(crate) fn parse(
     }
 }
 
-/// Parses a part of a text, and adds its items. Returns why it is refused, if it is.
-#[tactic(auto, using(crate::proofs::Parsed::of_refusal))]
+/// Parses a part of a text, and adds its items. Returns why it is rejected, if it is.
+#[tactic(auto, using(crate::proofs::Parsed::of_rejection))]
 fn parse_piece(
     piece: Piece<'_>,
     alloc: Global,
     items: &mut Vec<SurveyedItem>,
-) -> Result<Option<Refusal>, AllocError>
+) -> Result<Option<Rejection>, AllocError>
     requires inside { LiesIn (length piece.source.text.now) piece.lines }
     requires base { piece.base ≡ piece.lines.start - 1 }
     requires parsed { piece.parsed.now ≡ text_from_feed piece.source.text.now piece.lines }
@@ -98,11 +98,11 @@ fn parse_piece(
 {
     match parse_root(alloc, piece.source.path, piece.parsed) {
         Ok(mut ast) => {
-            let refusal = add_items(&mut ast, alloc, piece, items);
+            let rejection = add_items(&mut ast, alloc, piece, items);
             release(ast);
-            refusal
+            rejection
         }
-        Err(fault) => refuse(alloc, piece.source, piece.base, fault),
+        Err(fault) => reject(alloc, piece.source, piece.base, fault),
     }
 }
 
@@ -112,7 +112,7 @@ fn add_items(
     alloc: Global,
     piece: Piece<'_>,
     items: &mut Vec<SurveyedItem>,
-) -> Result<Option<Refusal>, AllocError>
+) -> Result<Option<Rejection>, AllocError>
     ensures { IfOk result (AddsFile (length piece.entry.source.text.now) piece.entry.base
         items.new.items items.old.items ast.old) }
 {
@@ -156,30 +156,30 @@ fn moved_extents(piece: Piece<'_>, alloc: Global) -> Result<Vec<Span>, AllocErro
     Ok(spans)
 }
 
-/// Returns why a part is refused, if its fault is an error.
-fn refuse(
+/// Returns why a part is rejected, if its fault is an error.
+fn reject(
     alloc: Global,
     source: Source<'_>,
     base: usize,
     fault: Fault<'_>,
-) -> Result<Option<Refusal>, AllocError>
-    ensures { IfOk result (IsRefusalIn (length source.entry.text.now)) }
+) -> Result<Option<Rejection>, AllocError>
+    ensures { IfOk result (IsRejectionIn (length source.entry.text.now)) }
 {
     match fault {
-        Fault::Compile(mut error) => refuse_for(alloc, source, base, &mut error),
+        Fault::Compile(mut error) => reject_for(alloc, source, base, &mut error),
         Fault::Memory => Err(AllocError),
         Fault::Numbers => Ok(None),
     }
 }
 
-/// Returns why a part is refused for an error.
-fn refuse_for(
+/// Returns why a part is rejected for an error.
+fn reject_for(
     alloc: Global,
     source: Source<'_>,
     base: usize,
     error: &mut CompileError<'_>,
-) -> Result<Option<Refusal>, AllocError>
-    ensures { IfOk result (IsRefusalIn (length source.entry.text.now)) }
+) -> Result<Option<Rejection>, AllocError>
+    ensures { IfOk result (IsRejectionIn (length source.entry.text.now)) }
 {
-    Ok(Some(refusal_of_part(alloc, source, base, error)?))
+    Ok(Some(rejection_of_part(alloc, source, base, error)?))
 }

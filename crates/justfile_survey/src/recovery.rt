@@ -3,7 +3,7 @@ ghost use Rattle.std.specs.Prelude.{◌≡◌, ◌<◌, ◌≤◌, ◌⊎◌, If
 ghost use Rattle.justfile_recovery.specs.Places.{LiesIn};
 ghost use Rattle.justfile_survey.specs.Parts.{BeginsWith, ErrorsIn, GoesOn, IsFoundBefore};
 
-use crate::errors::Refusal;
+use crate::errors::Rejection;
 use crate::parsing::{Cut, Source, parse};
 use crate::surveys::{Survey, SurveyedError, SurveyedItem};
 use justfile_recovery::{last_start, line_feeds, line_start, next_start, part_end};
@@ -30,7 +30,7 @@ pub(crate) struct Found {
 /// What is kept on the way through the parts of a text.
 #[derive(Clone, Copy)]
 pub(crate) struct Course {
-    /// The offset of the error of the text, until a part is refused.
+    /// The offset of the error of the text, until a part is rejected.
     cause: Option<usize>,
     /// The number of bytes that may still be parsed again.
     spare: usize,
@@ -39,7 +39,7 @@ pub(crate) struct Course {
     feeds: usize,
 }
 
-/// Surveys the parts of a text that is refused for this error.
+/// Surveys the parts of a text that is rejected for this error.
 pub(crate) fn survey_parts(
     alloc: Global,
     path: &str,
@@ -129,12 +129,12 @@ fn take(
     }
     match parse(here, alloc, part, Cut::Whole, &mut found.items)? {
         None => Ok(end),
-        Some(refusal) => go_on(here, alloc, part, refusal, found),
+        Some(rejection) => go_on(here, alloc, part, rejection, found),
     }
 }
 
-/// Returns the offset of the error of the text if that lies in this part and none was refused yet.
-/// Then the part is refused for that error.
+/// Returns the offset of the error of the text if that lies in this part and none was rejected yet.
+/// Then the part is rejected for that error.
 fn take_cause(part: Span, course: &mut Course) -> Option<usize> {
     let at = course.cause?;
     if at < part.start || part.end <= at {
@@ -154,34 +154,34 @@ fn count_feeds(text: &str, start: usize, course: &mut Course) -> usize {
     course.feeds
 }
 
-/// Goes on after a part that is refused. Returns from where on.
+/// Goes on after a part that is rejected. Returns from where on.
 #[tactic(auto, using(crate::proofs::Kept::reported))]
 fn go_on(
     source: Source<'_>,
     alloc: Global,
     part: Span,
-    refusal: Refusal,
+    rejection: Rejection,
     found: &mut Found,
 ) -> Result<usize, AllocError>
     requires inside { LiesIn (length source.text.now) part }
     requires some { part.start < part.end }
-    requires error { LiesIn (length source.text.now) refusal.error.span }
+    requires error { LiesIn (length source.text.now) rejection.error.span }
     requires parts { IsFoundBefore source.path.now source.text.now part.start found.old }
     ensures parts { IfOk result
         (λ next. IsFoundBefore source.entry.path.now source.entry.text.now next found.new) }
     ensures forward { IfOk result (λ next. part.start < next) }
 {
-    if refusal.ends_early {
+    if rejection.ends_early {
         if let Some(end) = parse_longer(source, alloc, part, found)? {
             return Ok(end);
         }
     }
-    let at = refusal.error.span.start;
-    report(source.text, part.start, refusal.error, found)?;
+    let at = rejection.error.span.start;
+    report(source.text, part.start, rejection.error, found)?;
     leave(source, alloc, part, at, found)
 }
 
-/// Leaves a part that is refused for an error at this offset, after the lines before it. Returns
+/// Leaves a part that is rejected for an error at this offset, after the lines before it. Returns
 /// where to go on.
 #[tactic(auto, using(crate::proofs::Kept::later))]
 fn leave(
@@ -269,9 +269,9 @@ fn parse_longer(
         }
         match parse(source, alloc, longer, Cut::Chunks, &mut found.items)? {
             None => return Ok(Some(end)),
-            Some(refusal) => {
-                if !refusal.ends_early || end == bytes.len() {
-                    return parse_up_to(source, alloc, part, refusal.error.span.start, found);
+            Some(rejection) => {
+                if !rejection.ends_early || end == bytes.len() {
+                    return parse_up_to(source, alloc, part, rejection.error.span.start, found);
                 }
             }
         }
@@ -322,7 +322,7 @@ fn parse_up_to(
 }
 
 /// Adds the error of a part that begins at an offset, unless there are enough. That of the first
-/// part that is refused is left out if the error of the text is after it: both have one cause.
+/// part that is rejected is left out if the error of the text is after it: both have one cause.
 #[tactic(auto, using(crate::proofs::Kept::with_error))]
 fn report(
     text: &str,

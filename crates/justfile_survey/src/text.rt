@@ -8,7 +8,7 @@ use crate::whole::{Whole, survey_whole};
 use std::alloc::{AllocError, Global};
 
 /// Surveys a text as the root file at this path. If it is a justfile, the survey has its items and
-/// no error. Otherwise the first error is the one for which it is refused; the items, and up to 99
+/// no error. Otherwise the first error is the one for which it is rejected; the items, and up to 99
 /// more errors, are those of its parts, each from where an item may begin to where the next one may.
 ///
 /// # Errors
@@ -23,7 +23,7 @@ pub fn survey(alloc: Global, path: &str, text: &str) -> Result<Survey, AllocErro
             items,
             errors: Vec::new(alloc),
         }),
-        Ok(Whole::Refused(error)) => survey_parts(alloc, path, text, error),
+        Ok(Whole::Rejected(error)) => survey_parts(alloc, path, text, error),
         Err(fault) => Err(fault),
     }
 }

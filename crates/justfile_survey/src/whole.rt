@@ -1,7 +1,7 @@
 //! The survey of a text as a whole.
 ghost use Rattle.std.specs.Prelude.{IfOk, codes, length};
 ghost use Rattle.justfile_token.specs.declared.fault.Fault.TheVariants.{Compile, Numbers};
-ghost use Rattle.justfile_survey.specs.Surveys.{IsJustfile, IsRefused, IsWhole, Says};
+ghost use Rattle.justfile_survey.specs.Surveys.{IsJustfile, IsRejected, IsWhole, Says};
 
 use crate::errors::error_of_text;
 use crate::items::push_items;
@@ -21,11 +21,11 @@ pub(crate) enum Whole {
     /// A justfile with these items.
     Justfile(Vec<SurveyedItem>),
     /// No justfile, for this error.
-    Refused(SurveyedError),
+    Rejected(SurveyedError),
 }
 
 /// Surveys a text as a whole.
-#[tactic(auto, using(crate::proofs::Found::refused_if_ok))]
+#[tactic(auto, using(crate::proofs::Found::rejected_if_ok))]
 pub(crate) fn survey_whole(alloc: Global, path: &str, text: &str) -> Result<Whole, AllocError>
     ensures { IfOk result (IsWhole path.now text.now) }
 {
@@ -69,30 +69,30 @@ pub(crate) fn extents(alloc: Global, path: &str, text: &str) -> Result<Vec<Span>
     }
 }
 
-/// Returns the error for which a text is refused.
+/// Returns the error for which a text is rejected.
 #[tactic(auto, using(crate::proofs::Found::same_fault))]
 fn whole_fault(alloc: Global, fault: Fault<'_>) -> Result<Whole, AllocError>
-    ensures { IfOk result (IsRefused fault.entry) }
+    ensures { IfOk result (IsRejected fault.entry) }
 {
     match fault {
-        Fault::Compile(error) => refused_for(alloc, &error),
+        Fault::Compile(error) => rejected_for(alloc, &error),
         Fault::Memory => Err(AllocError),
-        Fault::Numbers => refused_for_numbers(alloc),
+        Fault::Numbers => rejected_for_numbers(alloc),
     }
 }
 
-/// Returns that a text is refused for an error.
-fn refused_for(alloc: Global, error: &CompileError<'_>) -> Result<Whole, AllocError>
-    ensures { IfOk result (IsRefused (Compile error.now)) }
+/// Returns that a text is rejected for an error.
+fn rejected_for(alloc: Global, error: &CompileError<'_>) -> Result<Whole, AllocError>
+    ensures { IfOk result (IsRejected (Compile error.now)) }
 {
-    Ok(Whole::Refused(error_of_text(alloc, error)?))
+    Ok(Whole::Rejected(error_of_text(alloc, error)?))
 }
 
-/// Returns that a text is refused since numbers run out.
-fn refused_for_numbers(alloc: Global) -> Result<Whole, AllocError>
-    ensures { IfOk result (IsRefused Numbers) }
+/// Returns that a text is rejected since numbers run out.
+fn rejected_for_numbers(alloc: Global) -> Result<Whole, AllocError>
+    ensures { IfOk result (IsRejected Numbers) }
 {
-    Ok(Whole::Refused(out_of_numbers(alloc)?))
+    Ok(Whole::Rejected(out_of_numbers(alloc)?))
 }
 
 /// Returns the error that numbers run out.

@@ -279,7 +279,7 @@ pub mod parameter_kind {
 pub mod parser {
     //! From a text or its tokens to a file.
 
-    pub use justfile_canonical::reading::{Query, Reader, query_root, read_root, release};
+    pub use justfile_canonical::reading::{Inspector, Query, inspect_root, query_root, release};
     pub use justfile_canonical::root::{parse_root, parse_root_with};
     pub use justfile_lex::significant;
     pub use justfile_literal::cook_string;

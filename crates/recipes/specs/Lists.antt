@@ -20,11 +20,11 @@ IsCompileError faults.Memory = ⊥
 IsCompileError faults.Numbers = ⊥
 
 -- If the fault is a compile error, it tells why the text isn't a justfile.
-abbrev pub IsRefusal : (source : List ℕ) → Fault → Type 0
-IsRefusal source fault = IsCompileError fault → HasNoRoot (codes "justfile") source fault
+abbrev pub IsRejection : (source : List ℕ) → Fault → Type 0
+IsRejection source fault = IsCompileError fault → HasNoRoot (codes "justfile") source fault
 
 -- The text isn't a justfile.
-pub record IsRefused (source : List ℕ) : Type 0 where
+pub record IsRejected (source : List ℕ) : Type 0 where
   pub fault : Fault
   pub is_error : IsCompileError fault
   pub has_no_root : HasNoRoot (codes "justfile") source fault

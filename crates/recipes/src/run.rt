@@ -2,7 +2,7 @@
 ghost use Rattle.std.specs.Prelude.{◌≡◌, ◌≢◌, IfErr, IfOk, IfSome, map, string_bytes};
 ghost use Rattle.system_run.specs.Beginning.{AppendsBeginning};
 ghost use Rattle.std.specs.Io.KnownBytes.{Appends};
-ghost use Rattle.recipes.specs.Lists.{HasListing, IsCompileError, IsRefused, IsRefusal, Lists, ListsBeginning};
+ghost use Rattle.recipes.specs.Lists.{HasListing, IsCompileError, IsRejected, IsRejection, Lists, ListsBeginning};
 
 use crate::listing::listing;
 use justfile_syntax::fault::{CompileResult, Fault};
@@ -34,7 +34,7 @@ pub fn run<R: Read, W: Write, E: Write>(
 ) -> u8
     ensures listed { result ≡ 0 → IfSome (R.remaining reader.old)
         (λ source. Lists source (W.contents writer.old) (W.contents writer.new)) }
-    ensures refused { result ≡ 1 → IfSome (R.remaining reader.old) IsRefused }
+    ensures rejected { result ≡ 1 → IfSome (R.remaining reader.old) IsRejected }
     ensures unwritten { result ≢ 0 → result ≢ 3 → writer.new ≡ writer.old }
     ensures part { result ≡ 3 → IfSome (R.remaining reader.old)
         (λ source. ListsBeginning source (W.contents writer.old) (W.contents writer.new)) }
@@ -61,7 +61,7 @@ fn read<R: Read>(alloc: Global, reader: &mut R) -> Option<String>
 fn write_list<W: Write, E: Write>(alloc: Global, source: &str, writer: &mut W, errors: &mut E) -> u8
     ensures listed { result ≡ 0
         → Lists source.now (W.contents writer.old) (W.contents writer.new) }
-    ensures refused { result ≡ 1 → IsRefused source.now }
+    ensures rejected { result ≡ 1 → IsRejected source.now }
     ensures unwritten { result ≢ 0 → result ≢ 3 → writer.new ≡ writer.old }
     ensures part { result ≡ 3
         → ListsBeginning source.now (W.contents writer.old) (W.contents writer.new) }
@@ -75,7 +75,7 @@ fn write_list<W: Write, E: Write>(alloc: Global, source: &str, writer: &mut W, e
 /// Returns the list of the recipes of a justfile.
 fn list(alloc: Global, source: &str) -> CompileResult<'_, String>
     ensures ok { IfOk result (λ listing. HasListing source.now (string_bytes listing)) }
-    ensures err { IfErr result (IsRefusal source.now) }
+    ensures err { IfErr result (IsRejection source.now) }
 {
     let symbols = symbols(alloc, "justfile", source)?;
     Ok(listing(alloc, &symbols)?)
@@ -98,7 +98,7 @@ fn write<W: Write>(text: &str, writer: &mut W) -> u8
 
 /// Writes what a fault says, as far as that goes. Returns the exit status.
 fn report<E: Write>(fault: &Fault<'_>, errors: &mut E) -> u8
-    ensures refused { result ≡ 1 → IsCompileError fault.now }
+    ensures rejected { result ≡ 1 → IsCompileError fault.now }
     ensures status { result ≢ 1 → result ≡ 2 }
 {
     let _ = write!(errors, "error: {fault}\n");

@@ -1,6 +1,6 @@
 use Rattle.std.proofs.Common.{refl}
-use Rattle.justfile_c.proofs.Rooms.{given, refused}
-use Rattle.justfile_c.specs.Answers.{IsFailure, IsRefusal, not_utf8}
+use Rattle.justfile_c.proofs.Rooms.{given, rejected_text}
+use Rattle.justfile_c.specs.Answers.{IsFailure, IsRejected, not_utf8}
 use Rattle.justfile_c.proofs.justfile_format.Goals as goal
 
 pub returns-in-Err-clause-failed : goal.returns-in-Err-clause-failed
@@ -9,5 +9,5 @@ returns-in-Err-clause-failed c =
 
 pub returns-in-Err-Rejected-clause-told : goal.returns-in-Err-Rejected-clause-told
 returns-in-Err-Rejected-clause-told c =
-    let told = refused _ _ _ _ _ c.in-Ok.ensures.cases.0 c.in-Err-Rejected.field-0-is c.in-Err-Rejected.ensures.err c.put_rejection.ensures.place
-    in λ status. given (IsRefusal c.args.text.now c.put_rejection.result) _ _ _ _ told c.put_rejection.ensures.laid
+    let told = rejected_text _ _ _ _ _ c.in-Ok.ensures.cases.0 c.in-Err-Rejected.field-0-is c.in-Err-Rejected.ensures.err c.put_rejection.ensures.place
+    in λ status. given (IsRejected c.args.text.now c.put_rejection.result) _ _ _ _ told c.put_rejection.ensures.laid

@@ -15,7 +15,7 @@ use Rattle.justfile_model.specs.Trees.ContentKeys.{name_key, position_key, liter
 use Rattle.justfile_model.specs.Trees.ContentLeaf.{ContentLeaf, LiteralContent, token, literal, literal_value, operator, text, unseen, content_cmp}
 use Rattle.justfile_model.specs.Grammars.Expressions.{operator_kind}
 use Rattle.justfile_model.specs.Trees.ExpressionCases.{case_node}
-use Rattle.justfile_model.specs.Trees.Key.{Key, leaf, node, end, next, row, keys_of, absent_key, present_key, option_key, key_cmp}
+use Rattle.justfile_model.specs.Trees.Key.{Key, leaf, node, end, next, sequence, keys_of, absent_key, present_key, option_key, key_cmp}
 use Rattle.justfile_model.specs.declared.expression_case.ExpressionCase.TheVariants as cases
 use Rattle.justfile_model.specs.LiteralTexts.Literals as literals
 use Rattle.justfile_model.specs.LiteralTexts.Literals.{Literal, Expansions, over_literal, string_of, token_of}
@@ -96,11 +96,11 @@ module _ (expander : Expansions) where
         λ i. case_node cases.Conditional (next (expr_seen c h.0 i) (next (expr_seen b h.1 i) (next (present_key (expr_seen o h.2 i)) end)))
     expr_seen (tree.Not e) h = λ i. case_node cases.Not (next (expr_seen e h i) end)
     expr_seen (tree.StringLiteral expanded t) h = λ i. case_node cases.StringLiteral (next (string_seen expanded t h i) end)
-    expr_seen (tree.FormatLiteral t) h = λ i. case_node cases.FormatString (next (literal_seen (literals.Single t) h i) (next (row end) end))
+    expr_seen (tree.FormatLiteral t) h = λ i. case_node cases.FormatString (next (literal_seen (literals.Single t) h i) (next (sequence end) end))
     expr_seen (tree.FormatString start e parts) h =
         λ i. case_node cases.FormatString
         (next (literal_seen (literals.Start start) h.0 i)
-        (next (row (parts_seen start parts h.2 (expr_key tokens e) (expr_key lexemes (over_expr lexeme nothing e)) (expr_seen e h.1) i)) end))
+        (next (sequence (parts_seen start parts h.2 (expr_key tokens e) (expr_key lexemes (over_expr lexeme nothing e)) (expr_seen e h.1) i)) end))
     expr_seen (tree.Backtick t) h =
         λ i. case_node cases.Backtick (next (leaf (text (or_empty (tokens.cooked (literals.Command t))))) (next (leaf (token (record { kind = h i; lexeme = t.lexeme }))) end))
     expr_seen (tree.Assert name c) h =
@@ -108,10 +108,10 @@ module _ (expander : Expansions) where
     expr_seen (tree.AssertMessage name c m) h =
         λ i. case_node cases.Assert (next (expr_seen c h.1 i) (next (present_key (expr_seen m h.2 i)) (next (position_seen kinds.Identifier (codes "assert") name h.0 i) end)))
     expr_seen (tree.Variable name) h = λ i. case_node cases.Variable (next (name_seen name h i) (next (leaf unseen) end))
-    expr_seen (tree.Call name arguments) h = λ i. case_node cases.Call (next (name_seen name h.0 i) (next (row (exprs_seen arguments h.1 i)) end))
+    expr_seen (tree.Call name arguments) h = λ i. case_node cases.Call (next (name_seen name h.0 i) (next (sequence (exprs_seen arguments h.1 i)) end))
     expr_seen (tree.Group e) h = λ i. case_node cases.Group (next (expr_seen e h i) end)
     expr_seen (tree.ListOf opener elements) h =
-        λ i. case_node cases.List (next (row (exprs_seen elements h.1 i)) (next (position_seen kinds.BracketL (codes "[") opener h.0 i) end))
+        λ i. case_node cases.List (next (sequence (exprs_seen elements h.1 i)) (next (position_seen kinds.BracketL (codes "[") opener h.0 i) end))
 
     exprs_seen : (es : Exprs Tok Tok) → KindedExprs es → exprs_keys tokens es ≡ exprs_keys lexemes (over_exprs lexeme nothing es)
     exprs_seen tree.none h = refl
@@ -119,9 +119,9 @@ module _ (expander : Expansions) where
 
     parts_seen : (start : Tok) (ps : Parts Tok Tok) → KindedParts ps → (k l : Key ContentLeaf) → k ≡ l
         → parts_keys tokens start k ps ≡ parts_keys lexemes start.lexeme l (over_parts lexeme nothing ps)
-    parts_seen start (tree.Last t) h k l same = λ i. next (row (next (same i) (next (literal_seen (literals.End start t) h i) end))) end
+    parts_seen start (tree.Last t) h k l same = λ i. next (sequence (next (same i) (next (literal_seen (literals.End start t) h i) end))) end
     parts_seen start (tree.Continue t e ps) h k l same =
-        λ i. next (row (next (same i) (next (literal_seen (literals.Continue start t) h.0 i) end)))
+        λ i. next (sequence (next (same i) (next (literal_seen (literals.Continue start t) h.0 i) end)))
         (parts_seen start ps h.2 (expr_key tokens e) (expr_key lexemes (over_expr lexeme nothing e)) (expr_seen e h.1) i)
 
   -- ---- keys of attributes
@@ -183,7 +183,7 @@ module _ (expander : Expansions) where
   property_seen : (word : List ℕ) (o : Option (Property Tok Tok)) → KindedProperty word o
       → option_key (property_key tokens word) o ≡ option_key (property_key lexemes word) (option_map (over_property lexeme nothing) o)
   property_seen word None h = refl
-  property_seen word (Some p) h = λ i. present_key (row (next (position_seen kinds.Identifier word p.key h.0 i) (next (expr_seen p.value h.1 i) end)))
+  property_seen word (Some p) h = λ i. present_key (sequence (next (position_seen kinds.Identifier word p.key h.0 i) (next (expr_seen p.value h.1 i) end)))
 
   number_seen : (o : Option (Bound Tok)) → bound_number_key tokens o ≡ bound_number_key lexemes (option_map (over_bound lexeme nothing) o)
   number_seen None = refl
@@ -213,8 +213,8 @@ module _ (expander : Expansions) where
   texts_seen : (form : TextsForm) (qs : List (Quoted Tok)) → AllByRecursion KindedQuoted qs
       → texts_keys tokens form qs ≡ texts_keys lexemes form (map (over_quoted {B = Tok} lexeme nothing) qs)
   texts_seen CommandForm [] h = refl
-  texts_seen CommandForm (q ∷ qs) h = λ i. next (present_key (row (next (quoted_seen q h.0 i) (next (row (all_quoted_seen qs h.1 i)) end)))) end
-  texts_seen RowForm qs h = λ i. next (row (all_quoted_seen qs h i)) end
+  texts_seen CommandForm (q ∷ qs) h = λ i. next (present_key (sequence (next (quoted_seen q h.0 i) (next (sequence (all_quoted_seen qs h.1 i)) end)))) end
+  texts_seen RowForm qs h = λ i. next (sequence (all_quoted_seen qs h i)) end
   texts_seen ApartForm qs h = all_quoted_seen qs h
 
   keys_seen : (a : Attribute Tok Tok) → KindedMeaning a → attribute_keys tokens a ≡ attribute_keys lexemes (over_attribute lexeme nothing a)

@@ -10,7 +10,7 @@ use Rattle.justfile_model.specs.Readers.HeaderReader as r
 use Rattle.justfile_model.specs.Readers.HeaderReader.{next_binding_number, expression, header, obeying}
 use Rattle.justfile_model.specs.Readers.PartReader.{accept_keyword_before, after_numbered, file_path, peek_assignment, is_imported, is_module, is_set, setting_keyword, line_is, names, names_end, names_rule, no_names, numbered_name, optional_path, setting_value}
 use Rattle.justfile_model.specs.Grammars.Settings.{setting_form}
-use Rattle.justfile_model.specs.Readers.Reader.{Start, after_mark, alias, check_allowed, any_module, any_recipe, argument_rules, assignment, at_end, attributes, construct, content, next_recipe_number, end_of_tokens, item_end, function, has_body, import, imported, items, items_from, items_rule, line, named_module, check_exclusions, no_items, any_item, optional_body, recipe, setting, unexport, without_keyword}
+use Rattle.justfile_model.specs.Readers.Reader.{Start, after_byte_order_mark, alias, check_allowed, any_module, any_recipe, argument_rules, assignment, at_end, attributes, construct, content, next_recipe_number, end_of_tokens, item_end, function, has_body, import, imported, items, items_from, items_rule, line, named_module, check_exclusions, no_items, any_item, optional_body, recipe, setting, unexport, without_keyword}
 use Rattle.justfile_model.specs.Grammars.Conditions.{Conditions}
 use Rattle.justfile_model.specs.Grammars.Features.{Noted}
 use Rattle.justfile_model.specs.Readers.ReaderState.{◌>>=◌, Counters, accept, accepted, choose, expect, next_are}
@@ -303,4 +303,4 @@ same_whole neither = refl
 -- a file is read alike from any counters
 pub file_by : (n : Counters) (conditions : Conditions) (tokens : List SignificantToken) → whole (reader.file token_leaves token_attributes n (start_state conditions tokens)) ≡ tree_of_tokens conditions tokens
 unfolding reader.file tree_of_tokens
-file_by n conditions tokens = same_whole (all_items n unnumbered (after_mark token_leaves token_attributes (start_state conditions tokens)))
+file_by n conditions tokens = same_whole (all_items n unnumbered (after_byte_order_mark token_leaves token_attributes (start_state conditions tokens)))

@@ -13,7 +13,7 @@ use Rattle.justfile_model.specs.Trees.ContentKeys.{attribute_key, attribute_keys
 use Rattle.justfile_model.specs.Trees.ContentLeaf.{ContentLeaf, content_cmp, count, literal, literal_value, operator, text, token, unseen}
 use Rattle.justfile_model.specs.Grammars.Expressions.{operator_kind}
 use Rattle.justfile_model.specs.Trees.ExpressionCases.{case_node}
-use Rattle.justfile_model.specs.Trees.Key.{Key, absent_key, end, key_cmp, keys_of, leaf, next, node, option_key, present_key, row}
+use Rattle.justfile_model.specs.Trees.Key.{Key, absent_key, end, key_cmp, keys_of, leaf, next, node, option_key, present_key, sequence}
 use Rattle.justfile_model.specs.declared.expression_case.ExpressionCase.TheVariants as cases
 use Rattle.justfile_model.specs.LiteralTexts.Literals as literals
 use Rattle.justfile_model.specs.LiteralTexts.Literals.{Literal, string_of}
@@ -177,18 +177,18 @@ module _ {R T A B S D R' T' A' B' S' D' : Type 0} (rel : Relations R T A B S D R
       same_key (a.not e) = λ i. case_node cases.Not (next (same_key e i) end)
       same_key (a.string {expanded =
           expanded} lexeme l) = λ i. case_node cases.StringLiteral (next (literal_is (string_alike expanded lexeme l) i) end)
-      same_key (a.format_literal lexeme l) = λ i. case_node cases.FormatString (next (literal_is (single_literal l) i) (next (row end) end))
+      same_key (a.format_literal lexeme l) = λ i. case_node cases.FormatString (next (literal_is (single_literal l) i) (next (sequence end) end))
       same_key (a.format_string lexeme l e ps) =
-          λ i. case_node cases.FormatString (next (literal_is (start_literal l) i) (next (row (same_parts l (same_key e) ps i)) end))
+          λ i. case_node cases.FormatString (next (literal_is (start_literal l) i) (next (sequence (same_parts l (same_key e) ps i)) end))
       same_key (a.backtick lexeme l) = command_is lexeme l
       same_key (a.assert b c) =
           λ i. case_node cases.Assert (next (same_key c i) (next absent_key (next (position_is kinds.Identifier (codes "assert") b i) end)))
       same_key (a.assert_message b c m) =
           λ i. case_node cases.Assert (next (same_key c i) (next (present_key (same_key m i)) (next (position_is kinds.Identifier (codes "assert") b i) end)))
       same_key (a.variable n) = λ i. case_node cases.Variable (next (name_is n i) (next (leaf unseen) end))
-      same_key (a.call n es) = λ i. case_node cases.Call (next (name_is n i) (next (row (same_keys es i)) end))
+      same_key (a.call n es) = λ i. case_node cases.Call (next (name_is n i) (next (sequence (same_keys es i)) end))
       same_key (a.group e) = λ i. case_node cases.Group (next (same_key e i) end)
-      same_key (a.list b es) = λ i. case_node cases.List (next (row (same_keys es i)) (next (position_is kinds.BracketL (codes "[") b i) end))
+      same_key (a.list b es) = λ i. case_node cases.List (next (sequence (same_keys es i)) (next (position_is kinds.BracketL (codes "[") b i) end))
 
       pub same_keys : {es : Exprs A B} {es' : Exprs A' B'} → AlikeAll rel es es' → exprs_keys view es ≡ exprs_keys view' es'
       same_keys a.none = refl
@@ -198,8 +198,8 @@ module _ {R T A B S D R' T' A' B' S' D' : Type 0} (rel : Relations R T A B S D R
       pub same_parts : {start : List ℕ} {s : A} {s' : A'} {k k' : Key ContentLeaf} {ps : Parts A B} {ps' : Parts A' B'}
           → rel.literal (literals.Start start) s s' → k ≡ k' → AlikeParts rel start ps ps'
           → parts_keys view s k ps ≡ parts_keys view' s' k' ps'
-      same_parts s k (a.last lexeme l) = λ i. next (row (next (k i) (next (literal_is (end_literal s l) i) end))) end
-      same_parts s k (a.continue lexeme l e ps) = λ i. next (row (next (k i) (next (literal_is (continue_literal s l) i) end))) (same_parts s (same_key e) ps i)
+      same_parts s k (a.last lexeme l) = λ i. next (sequence (next (k i) (next (literal_is (end_literal s l) i) end))) end
+      same_parts s k (a.continue lexeme l e ps) = λ i. next (sequence (next (k i) (next (literal_is (continue_literal s l) i) end))) (same_parts s (same_key e) ps i)
 
     -- ---- attributes
 
@@ -231,7 +231,7 @@ module _ {R T A B S D R' T' A' B' S' D' : Type 0} (rel : Relations R T A B S D R
     word_is word b b' h = position_is kinds.Identifier word h
 
     property_is : (word : List ℕ) (p : Property A B) (p' : Property A' B') → AlikeProperty rel p p' → property_key view word p ≡ property_key view' word p'
-    property_is word p p' h = λ i. row (next (position_is kinds.Identifier word h.key i) (next (same_key h.value i) end))
+    property_is word p p' h = λ i. sequence (next (position_is kinds.Identifier word h.key i) (next (same_key h.value i) end))
 
     expression_is : (e : Expr A B) (e' : Expr A' B') → Alike rel e e' → expr_key view e ≡ expr_key view' e'
     expression_is e e' h = same_key h
@@ -261,8 +261,8 @@ module _ {R T A B S D R' T' A' B' S' D' : Type 0} (rel : Relations R T A B S D R
     texts_are : (form : TextsForm) {qs : List (Quoted A)} {qs' : List (Quoted A')} → Each (AlikeQuoted rel) qs qs'
         → texts_keys view form qs ≡ texts_keys view' form qs'
     texts_are CommandForm a.nil = refl
-    texts_are CommandForm (a.cons h hs) = λ i. next (present_key (row (next (quoted_is h i) (next (row (each_is hs i)) end)))) end
-    texts_are RowForm h = λ i. next (row (each_is h i)) end
+    texts_are CommandForm (a.cons h hs) = λ i. next (present_key (sequence (next (quoted_is h i) (next (sequence (each_is hs i)) end)))) end
+    texts_are RowForm h = λ i. next (sequence (each_is h i)) end
     texts_are ApartForm h = each_is h
 
     attribute_keys_are : {x : Attribute A B} {x' : Attribute A' B'} → AlikeAttribute x x' → attribute_keys view x ≡ attribute_keys view' x'

@@ -10,7 +10,7 @@ use Rattle.justfile_vocabulary.specs.declared.token_kind.TokenKind.TheVariants a
 use Rattle.justfile_model.specs.Readers.AttributeReader.{AttributeLeaves}
 use Rattle.justfile_model.specs.Readers.HeaderReader.{ReadHeader, next_binding_number, expression, header, with_bindings}
 use Rattle.justfile_model.specs.Readers.PartReader.{accept_keyword_before, after_numbered, peek_assignment, is_imported, is_module, is_set, line_is, names, setting_value}
-use Rattle.justfile_model.specs.Readers.Reader.{CommentedBody, Start, after_mark, alias, any_module, any_recipe, argument_rules, assigned, assignment, at_end, attributes, body, body_after, body_line, construct, content, next_recipe_number, end_of_tokens, item_end, file, fragment, function, has_body, headed, import, imported, items, items_from, items_rule, line, line_at, line_end, line_rest, line_rest_rule, lines, lines_rule, named_module, check_exclusions, no_line_rest, no_lines, any_item, optional_body, recipe, setting, some_lines, unexport, with_recipes, without_keyword}
+use Rattle.justfile_model.specs.Readers.Reader.{CommentedBody, Start, after_byte_order_mark, alias, any_module, any_recipe, argument_rules, assigned, assignment, at_end, attributes, body, body_after, body_line, construct, content, next_recipe_number, end_of_tokens, item_end, file, fragment, function, has_body, headed, import, imported, items, items_from, items_rule, line, line_at, line_end, line_rest, line_rest_rule, lines, lines_rule, named_module, check_exclusions, no_line_rest, no_lines, any_item, optional_body, recipe, setting, some_lines, unexport, with_recipes, without_keyword}
 use Rattle.justfile_model.specs.Grammars.Expressions.{front}
 use Rattle.justfile_model.specs.Readers.Reader as r
 use Rattle.justfile_model.specs.Readers.ReaderState as taking
@@ -664,6 +664,6 @@ module _ {R T A B S D W R' T' A' B' S' D' W' : Type 0} (rel : Relations R T A B 
   mark_taken h none_taken = h
   mark_taken h (taken t k) = k
 
-  pub file_natural : (n : Counters) (s : State R T B) (s' : State R' T' B') → States rel s s' → Related rel (AllNumbered n) (NoFile n (after_mark other kept' s')) (file one kept n s) (file other kept' n s')
+  pub file_natural : (n : Counters) (s : State R T B) (s' : State R' T' B') → States rel s s' → Related rel (AllNumbered n) (NoFile n (after_byte_order_mark other kept' s')) (file one kept n s) (file other kept' n s')
   unfolding file
-  file_natural n s s' h = items_natural n (after_mark one kept s) (after_mark other kept' s') (mark_taken h (accepted rel one other agree kinds.ByteOrderMark h))
+  file_natural n s s' h = items_natural n (after_byte_order_mark one kept s) (after_byte_order_mark other kept' s') (mark_taken h (accepted rel one other agree kinds.ByteOrderMark h))

@@ -24,13 +24,13 @@ significant_from glued (t ∷ ts) = cond (is_whitespace t.kind) (significant_fro
 abbrev pub significant_tokens : List Tok → List SignificantToken
 significant_tokens = significant_from false
 
--- an entry of the table that the parser reads: a token, and whether it is glued to the one before
-abbrev pub TableEntry : Type 0
-TableEntry = Token × Bool
+-- one of the table that the parser reads: a token, and whether it is glued to the one before
+abbrev pub TableToken : Type 0
+TableToken = Token × Bool
 
--- an entry as the definitions see it
-abbrev pub significant_of : TableEntry → SignificantToken
-significant_of entry = record { tok = tok_of entry.0; glued = entry.1 }
+-- a token of the table as the definitions see it
+abbrev pub significant_of : TableToken → SignificantToken
+significant_of table_token = record { tok = tok_of table_token.0; glued = table_token.1 }
 
 abbrev pub is_identifier : TokenKind → Bool
 is_identifier Identifier = true

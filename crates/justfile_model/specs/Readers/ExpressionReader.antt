@@ -255,7 +255,7 @@ module _ {R T A B S : Type 0} (leaves : Leaves R T A B S) where
       start ← cooked (λ l. l) literals.Start x
       format_rest_rule start.0 (leaves.see x.0).tok.lexeme start.1
 
-    -- a list; any other entry is refused
+    -- a list; any other token is refused
     unfoldable pub list_rule : State R T B → ReadExpr
     list_rule s = choose (accept leaves kinds.BracketL s) (Err (refused Unexpected s)) (λ o. do
       es ← read (Sequence kinds.BracketR (note leaves features.ListLiteral o.0 o.1))

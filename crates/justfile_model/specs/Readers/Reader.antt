@@ -380,8 +380,8 @@ module _ {R T A B S D W : Type 0} (leaves : Leaves R T A B S) (kept : AttributeL
   items n s = items_from (n, s)
 
   -- the state after a byte order mark, if one is next
-  abbrev pub after_mark : State R T B → State R T B
-  after_mark s = choose (accept leaves kinds.ByteOrderMark s) s (λ mark. mark.1)
+  abbrev pub after_byte_order_mark : State R T B → State R T B
+  after_byte_order_mark s = choose (accept leaves kinds.ByteOrderMark s) s (λ mark. mark.1)
 
   unfoldable pub file : Counters → State R T B → Read R T B (List (Item A B ℕ S D) × Counters)
-  file n s = items n (after_mark s)
+  file n s = items n (after_byte_order_mark s)

@@ -14,7 +14,7 @@ use Rattle.justfile_model.specs.Trees.ConditionalOperator.{operator_sign}
 use Rattle.justfile_model.specs.Trees.ContentLeaf.{ContentLeaf, token, literal, operator, text, count, signal, unseen, content_cmp}
 use Rattle.justfile_model.specs.Grammars.Expressions.{operator_kind}
 use Rattle.justfile_model.specs.Trees.ExpressionCases.{case_node}
-use Rattle.justfile_model.specs.Trees.Key.{Key, Keys, leaf, node, end, next, row, keys_of, absent_key, present_key, option_key, key_cmp}
+use Rattle.justfile_model.specs.Trees.Key.{Key, Keys, leaf, node, end, next, sequence, keys_of, absent_key, present_key, option_key, key_cmp}
 use Rattle.justfile_model.specs.declared.expression_case.ExpressionCase.TheVariants as cases
 use Rattle.justfile_model.specs.LiteralTexts.Literals as literals
 use Rattle.justfile_model.specs.LiteralTexts.Literals.{Literal, string_of}
@@ -57,7 +57,7 @@ module _ {A B : Type 0} (view : LeafView A B) where
     expr_key (tree.Backtick command) =
         case_node cases.Backtick (next (leaf (text (or_empty (view.cooked (literals.Command command)))))
         (next (leaf (token (view.leaf_content kinds.Backtick command))) end))
-    expr_key (tree.Call name arguments) = case_node cases.Call (next (name_key name) (next (row (exprs_keys arguments)) end))
+    expr_key (tree.Call name arguments) = case_node cases.Call (next (name_key name) (next (sequence (exprs_keys arguments)) end))
     expr_key (tree.Comparison l o position r) =
         case_node cases.Comparison (next (expr_key l) (next (leaf (operator o)) (next (expr_key r)
         (next (position_key (operator_kind o) (operator_sign o) position) end))))
@@ -65,16 +65,16 @@ module _ {A B : Type 0} (view : LeafView A B) where
         case_node cases.Concatenation (next (expr_key l) (next (position_key kinds.Plus (codes "+") position) (next (expr_key r) end)))
     expr_key (tree.If c b) = case_node cases.Conditional (next (expr_key c) (next (expr_key b) (next absent_key end)))
     expr_key (tree.IfElse c b o) = case_node cases.Conditional (next (expr_key c) (next (expr_key b) (next (present_key (expr_key o)) end)))
-    expr_key (tree.FormatLiteral l) = case_node cases.FormatString (next (literal_key (literals.Single l)) (next (row end) end))
+    expr_key (tree.FormatLiteral l) = case_node cases.FormatString (next (literal_key (literals.Single l)) (next (sequence end) end))
     expr_key (tree.FormatString start e parts) =
-        case_node cases.FormatString (next (literal_key (literals.Start start)) (next (row (parts_keys start (expr_key e) parts)) end))
+        case_node cases.FormatString (next (literal_key (literals.Start start)) (next (sequence (parts_keys start (expr_key e) parts)) end))
     expr_key (tree.Group e) = case_node cases.Group (next (expr_key e) end)
     expr_key (tree.Root position r) =
         case_node cases.Join (next absent_key (next (position_key kinds.Slash (codes "/") position) (next (expr_key r) end)))
     expr_key (tree.Join l position r) =
         case_node cases.Join (next (present_key (expr_key l)) (next (position_key kinds.Slash (codes "/") position) (next (expr_key r) end)))
     expr_key (tree.ListOf opener elements) =
-        case_node cases.List (next (row (exprs_keys elements)) (next (position_key kinds.BracketL (codes "[") opener) end))
+        case_node cases.List (next (sequence (exprs_keys elements)) (next (position_key kinds.BracketL (codes "[") opener) end))
     expr_key (tree.ListConcatenation l position r) =
         case_node cases.ListConcatenation (next (expr_key l) (next (position_key kinds.PlusPlus (codes "++") position) (next (expr_key r) end)))
     expr_key (tree.Not e) = case_node cases.Not (next (expr_key e) end)
@@ -88,9 +88,9 @@ module _ {A B : Type 0} (view : LeafView A B) where
 
     -- the keys of the parts of a format string: each is an expression and the literal part after it
     pub parts_keys : (start : A) → Key ContentLeaf → Parts A B → Keys ContentLeaf
-    parts_keys start e (tree.Last part) = next (row (next e (next (literal_key (literals.End start part)) end))) end
+    parts_keys start e (tree.Last part) = next (sequence (next e (next (literal_key (literals.End start part)) end))) end
     parts_keys start e (tree.Continue part f parts) =
-        next (row (next e (next (literal_key (literals.Continue start part)) end))) (parts_keys start (expr_key f) parts)
+        next (sequence (next e (next (literal_key (literals.Continue start part)) end))) (parts_keys start (expr_key f) parts)
 
   abbrev pub quoted_key : Quoted A → Key ContentLeaf
   quoted_key q = literal_key (string_of q.expanded q.token)
@@ -112,7 +112,7 @@ module _ {A B : Type 0} (view : LeafView A B) where
   own_name_key word (tree.Named name) = absent_key
 
   abbrev pub property_key : (word : List ℕ) → Property A B → Key ContentLeaf
-  property_key word p = row (next (word_key word p.key) (next (expr_key p.value) end))
+  property_key word p = sequence (next (word_key word p.key) (next (expr_key p.value) end))
 
   abbrev pub bound_number_key : Option (Bound B) → Key ContentLeaf
   bound_number_key = option_key (λ (b : Bound B). leaf (count b.number))
@@ -133,9 +133,9 @@ module _ {A B : Type 0} (view : LeafView A B) where
   -- the keys of literals, as they are held
   abbrev pub texts_keys : TextsForm → List (Quoted A) → Keys ContentLeaf
   texts_keys ApartForm texts = keys_of quoted_key texts
-  texts_keys RowForm texts = next (row (keys_of quoted_key texts)) end
+  texts_keys RowForm texts = next (sequence (keys_of quoted_key texts)) end
   texts_keys CommandForm [] = end
-  texts_keys CommandForm (command ∷ arguments) = next (present_key (row (next (quoted_key command) (next (row (keys_of quoted_key arguments)) end)))) end
+  texts_keys CommandForm (command ∷ arguments) = next (present_key (sequence (next (quoted_key command) (next (sequence (keys_of quoted_key arguments)) end)))) end
 
   abbrev pub plain_keys : (optional : Bool) → Keys ContentLeaf
   plain_keys true = next absent_key end
@@ -150,7 +150,7 @@ module _ {A B : Type 0} (view : LeafView A B) where
   attribute_keys (tree.Single kind value) = single_keys (is_optional kind) (expr_key value)
   attribute_keys (tree.Texts kind texts) = texts_keys (kind_form kind).texts texts
   attribute_keys (tree.Env key value) = next (expr_key key) (next (expr_key value) end)
-  attribute_keys (tree.Signals given) = next (row (keys_of (λ s. leaf (signal s)) given)) end
+  attribute_keys (tree.Signals given) = next (sequence (keys_of (λ s. leaf (signal s)) given)) end
   attribute_keys (tree.Cache extra inputs outputs) = next (option_key expr_key extra) (next (option_key expr_key inputs) (next (option_key expr_key outputs) end))
   attribute_keys (tree.Arg rules) = rules_keys rules
 

@@ -44,8 +44,8 @@ label (leaf a) = 0
 label (node n ks) = n
 
 -- a list of keys as a single key
-abbrev pub row : {L : Type 0} → Keys L → Key L
-row ks = node 0 ks
+abbrev pub sequence : {L : Type 0} → Keys L → Key L
+sequence ks = node 0 ks
 
 -- the keys of the elements of a list
 abbrev pub keys_of : {X L : Type 0} → (X → Key L) → List X → Keys L

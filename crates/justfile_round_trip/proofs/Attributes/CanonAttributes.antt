@@ -6,8 +6,8 @@ use Rattle.justfile_model.specs.Trees.Tree as tree
 use Rattle.justfile_model.specs.Trees.Tree.{WrittenAttribute, Positional, Bare, Keyed, Entry}
 use Rattle.justfile_model.specs.Printed.Printing.{after_line_text, fixed_text, expr_text, argument_text, arguments_text, parenthesized_arguments, attribute_arguments, entry_text, entries_text}
 use Rattle.justfile_model.specs.Printed.PrintedAttributes.{rewritten_entry, rewritten_entries}
-use Rattle.justfile_round_trip.proofs.LiteralTexts.LexedModes.{Mark, mark}
-use Rattle.justfile_round_trip.proofs.Canon.{newline, word, paren_left, paren_right, comma, space, expr_on, expr_marks, expr_is, then}
+use Rattle.justfile_round_trip.proofs.LiteralTexts.LexedModes.{Sign, sign}
+use Rattle.justfile_round_trip.proofs.Canon.{newline, word, paren_left, paren_right, comma, space, expr_on, expr_signs, expr_is, then}
 
 -- What attributes of a shape are made of: arguments, attributes as they are written, and what they mean.
 abbrev pub Argument : Type 0
@@ -55,41 +55,41 @@ entries_on entries = attributes_on (rewritten_entries entries)
 
 -- ---- tokens
 
-abbrev pub equals : Mark
-equals = mark kinds.Equals (codes "=")
+abbrev pub equals : Sign
+equals = sign kinds.Equals (codes "=")
 
-abbrev pub bracket_left : Mark
-bracket_left = mark kinds.BracketL (codes "[")
+abbrev pub bracket_left : Sign
+bracket_left = sign kinds.BracketL (codes "[")
 
-abbrev pub bracket_right : Mark
-bracket_right = mark kinds.BracketR (codes "]")
+abbrev pub bracket_right : Sign
+bracket_right = sign kinds.BracketR (codes "]")
 
-abbrev pub argument_marks : Argument → List Mark → List Mark
-argument_marks (Positional first value) ts = expr_marks value ts
-argument_marks (Bare key) ts = word key ∷ ts
-argument_marks (Keyed key value) ts = word key ∷ equals ∷ expr_marks value ts
+abbrev pub argument_signs : Argument → List Sign → List Sign
+argument_signs (Positional first value) ts = expr_signs value ts
+argument_signs (Bare key) ts = word key ∷ ts
+argument_signs (Keyed key value) ts = word key ∷ equals ∷ expr_signs value ts
 
-abbrev pub other_arguments_marks : List Argument → List Mark → List Mark
-other_arguments_marks [] ts = ts
-other_arguments_marks (a ∷ arguments) ts = comma ∷ space ∷ argument_marks a (other_arguments_marks arguments ts)
+abbrev pub other_arguments_signs : List Argument → List Sign → List Sign
+other_arguments_signs [] ts = ts
+other_arguments_signs (a ∷ arguments) ts = comma ∷ space ∷ argument_signs a (other_arguments_signs arguments ts)
 
-abbrev pub parenthesized_marks : List Argument → List Mark → List Mark
-parenthesized_marks [] ts = ts
-parenthesized_marks (a ∷ arguments) ts = paren_left ∷ argument_marks a (other_arguments_marks arguments (paren_right ∷ ts))
+abbrev pub parenthesized_signs : List Argument → List Sign → List Sign
+parenthesized_signs [] ts = ts
+parenthesized_signs (a ∷ arguments) ts = paren_left ∷ argument_signs a (other_arguments_signs arguments (paren_right ∷ ts))
 
-abbrev pub comment_marks : Option (List ℕ) → List Mark → List Mark
-comment_marks None ts = ts
-comment_marks (Some t) ts = space ∷ mark kinds.Comment t ∷ ts
+abbrev pub comment_signs : Option (List ℕ) → List Sign → List Sign
+comment_signs None ts = ts
+comment_signs (Some t) ts = space ∷ sign kinds.Comment t ∷ ts
 
-abbrev pub written_marks : Written → List Mark → List Mark
-written_marks w ts = bracket_left ∷ word w.name ∷ parenthesized_marks w.arguments (bracket_right ∷ comment_marks w.comment (newline ∷ ts))
+abbrev pub written_signs : Written → List Sign → List Sign
+written_signs w ts = bracket_left ∷ word w.name ∷ parenthesized_signs w.arguments (bracket_right ∷ comment_signs w.comment (newline ∷ ts))
 
-abbrev pub attributes_marks : List Written → List Mark → List Mark
-attributes_marks [] ts = ts
-attributes_marks (w ∷ ws) ts = written_marks w (attributes_marks ws ts)
+abbrev pub attributes_signs : List Written → List Sign → List Sign
+attributes_signs [] ts = ts
+attributes_signs (w ∷ ws) ts = written_signs w (attributes_signs ws ts)
 
-abbrev pub entries_marks : List ShapeEntry → List Mark → List Mark
-entries_marks entries = attributes_marks (rewritten_entries entries)
+abbrev pub entries_signs : List ShapeEntry → List Sign → List Sign
+entries_signs entries = attributes_signs (rewritten_entries entries)
 
 -- ---- the text of the definitions is this text
 

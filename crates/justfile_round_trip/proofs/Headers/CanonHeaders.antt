@@ -7,8 +7,8 @@ use Rattle.justfile_model.specs.declared.parameter_kind.ParameterKind.{Parameter
 use Rattle.justfile_model.specs.declared.parameter_kind.ParameterKind.TheVariants.{Plus, Singular, Star}
 use Rattle.justfile_model.specs.Printed.Printing.{fixed_text, if_some, if_true, expr_text, prefix_text, parameter_text, dependency_argument_text, parenthesized, dependency_text, subsequents_text, header_text}
 use Rattle.justfile_model.specs.Trees.Tree as tree
-use Rattle.justfile_round_trip.proofs.LiteralTexts.LexedModes.{Mark, mark}
-use Rattle.justfile_round_trip.proofs.Canon.{Value, colon, word, paren_left, paren_right, space, expr_on, expr_marks, expr_is, then}
+use Rattle.justfile_round_trip.proofs.LiteralTexts.LexedModes.{Sign, sign}
+use Rattle.justfile_round_trip.proofs.Canon.{Value, colon, word, paren_left, paren_right, space, expr_on, expr_signs, expr_is, then}
 use Rattle.justfile_round_trip.proofs.Attributes.CanonAttributes.{equals}
 
 -- What the header of a shape is made of.
@@ -95,84 +95,84 @@ header_on h more = at_on h.quiet (h.name ++ header_rest_on h more)
 
 -- ---- tokens
 
-abbrev pub plus : Mark
-plus = mark kinds.Plus (43 ∷ [])
+abbrev pub plus : Sign
+plus = sign kinds.Plus (43 ∷ [])
 
-abbrev asterisk : Mark
-asterisk = mark kinds.Asterisk (42 ∷ [])
+abbrev asterisk : Sign
+asterisk = sign kinds.Asterisk (42 ∷ [])
 
-abbrev pub dollar : Mark
-dollar = mark kinds.Dollar (36 ∷ [])
+abbrev pub dollar : Sign
+dollar = sign kinds.Dollar (36 ∷ [])
 
-abbrev pub at_sign : Mark
-at_sign = mark kinds.At (64 ∷ [])
+abbrev pub at_sign : Sign
+at_sign = sign kinds.At (64 ∷ [])
 
-abbrev pub colons : Mark
-colons = mark kinds.ColonColon (58 ∷ 58 ∷ [])
+abbrev pub colons : Sign
+colons = sign kinds.ColonColon (58 ∷ 58 ∷ [])
 
-abbrev pub ampersands : Mark
-ampersands = mark kinds.AmpersandAmpersand (38 ∷ 38 ∷ [])
+abbrev pub ampersands : Sign
+ampersands = sign kinds.AmpersandAmpersand (38 ∷ 38 ∷ [])
 
-abbrev pub prefix_marks : ParameterKind → List Mark → List Mark
-prefix_marks Plus ts = plus ∷ ts
-prefix_marks Singular ts = ts
-prefix_marks Star ts = asterisk ∷ ts
+abbrev pub prefix_signs : ParameterKind → List Sign → List Sign
+prefix_signs Plus ts = plus ∷ ts
+prefix_signs Singular ts = ts
+prefix_signs Star ts = asterisk ∷ ts
 
-abbrev pub dollar_marks : (export : Bool) → List Mark → List Mark
-dollar_marks true ts = dollar ∷ ts
-dollar_marks false ts = ts
+abbrev pub dollar_signs : (export : Bool) → List Sign → List Sign
+dollar_signs true ts = dollar ∷ ts
+dollar_signs false ts = ts
 
-abbrev pub default_marks : Option Value → List Mark → List Mark
-default_marks None ts = ts
-default_marks (Some e) ts = equals ∷ expr_marks e ts
+abbrev pub default_signs : Option Value → List Sign → List Sign
+default_signs None ts = ts
+default_signs (Some e) ts = equals ∷ expr_signs e ts
 
-abbrev parameter_marks : ShapeParameter → List Mark → List Mark
-parameter_marks p ts = prefix_marks p.kind (dollar_marks p.export (word p.name ∷ default_marks p.default ts))
+abbrev parameter_signs : ShapeParameter → List Sign → List Sign
+parameter_signs p ts = prefix_signs p.kind (dollar_signs p.export (word p.name ∷ default_signs p.default ts))
 
-abbrev pub parameters_marks : List ShapeParameter → List Mark → List Mark
-parameters_marks [] ts = ts
-parameters_marks (p ∷ ps) ts = space ∷ parameter_marks p (parameters_marks ps ts)
+abbrev pub parameters_signs : List ShapeParameter → List Sign → List Sign
+parameters_signs [] ts = ts
+parameters_signs (p ∷ ps) ts = space ∷ parameter_signs p (parameters_signs ps ts)
 
-abbrev pub path_rest_marks : List (List ℕ) → List Mark → List Mark
-path_rest_marks [] ts = ts
-path_rest_marks (name ∷ names) ts = colons ∷ word name ∷ path_rest_marks names ts
+abbrev pub path_rest_signs : List (List ℕ) → List Sign → List Sign
+path_rest_signs [] ts = ts
+path_rest_signs (name ∷ names) ts = colons ∷ word name ∷ path_rest_signs names ts
 
-abbrev pub path_marks : List (List ℕ) → List Mark → List Mark
-path_marks [] ts = ts
-path_marks (name ∷ names) ts = word name ∷ path_rest_marks names ts
+abbrev pub path_signs : List (List ℕ) → List Sign → List Sign
+path_signs [] ts = ts
+path_signs (name ∷ names) ts = word name ∷ path_rest_signs names ts
 
-abbrev pub star_marks : Option (Unit {0}) → List Mark → List Mark
-star_marks None ts = ts
-star_marks (Some star) ts = asterisk ∷ ts
+abbrev pub star_signs : Option (Unit {0}) → List Sign → List Sign
+star_signs None ts = ts
+star_signs (Some star) ts = asterisk ∷ ts
 
-abbrev pub dependency_arguments_marks : List ShapeArgument → List Mark → List Mark
-dependency_arguments_marks [] ts = ts
-dependency_arguments_marks (a ∷ arguments) ts = space ∷ star_marks a.star (expr_marks a.value (dependency_arguments_marks arguments ts))
+abbrev pub dependency_arguments_signs : List ShapeArgument → List Sign → List Sign
+dependency_arguments_signs [] ts = ts
+dependency_arguments_signs (a ∷ arguments) ts = space ∷ star_signs a.star (expr_signs a.value (dependency_arguments_signs arguments ts))
 
-abbrev pub dependency_parts_marks : Option (Unit {0}) → List (List ℕ) → List ShapeArgument → List Mark → List Mark
-dependency_parts_marks star path [] ts = path_marks path ts
-dependency_parts_marks star path (a ∷ arguments) ts = star_marks star (paren_left ∷ path_marks path (dependency_arguments_marks (a ∷ arguments) (paren_right ∷ ts)))
+abbrev pub dependency_parts_signs : Option (Unit {0}) → List (List ℕ) → List ShapeArgument → List Sign → List Sign
+dependency_parts_signs star path [] ts = path_signs path ts
+dependency_parts_signs star path (a ∷ arguments) ts = star_signs star (paren_left ∷ path_signs path (dependency_arguments_signs (a ∷ arguments) (paren_right ∷ ts)))
 
-abbrev pub dependency_marks : ShapeDependency → List Mark → List Mark
-dependency_marks d ts = dependency_parts_marks d.star d.path d.arguments ts
+abbrev pub dependency_signs : ShapeDependency → List Sign → List Sign
+dependency_signs d ts = dependency_parts_signs d.star d.path d.arguments ts
 
-abbrev pub dependencies_marks : List ShapeDependency → List Mark → List Mark
-dependencies_marks [] ts = ts
-dependencies_marks (d ∷ ds) ts = space ∷ dependency_marks d (dependencies_marks ds ts)
+abbrev pub dependencies_signs : List ShapeDependency → List Sign → List Sign
+dependencies_signs [] ts = ts
+dependencies_signs (d ∷ ds) ts = space ∷ dependency_signs d (dependencies_signs ds ts)
 
-abbrev pub subsequents_marks : List ShapeDependency → List Mark → List Mark
-subsequents_marks [] ts = ts
-subsequents_marks (d ∷ ds) ts = space ∷ ampersands ∷ dependencies_marks (d ∷ ds) ts
+abbrev pub subsequents_signs : List ShapeDependency → List Sign → List Sign
+subsequents_signs [] ts = ts
+subsequents_signs (d ∷ ds) ts = space ∷ ampersands ∷ dependencies_signs (d ∷ ds) ts
 
-abbrev pub at_marks : (quiet : Bool) → List Mark → List Mark
-at_marks true ts = at_sign ∷ ts
-at_marks false ts = ts
+abbrev pub at_signs : (quiet : Bool) → List Sign → List Sign
+at_signs true ts = at_sign ∷ ts
+at_signs false ts = ts
 
-abbrev pub header_rest_marks : ShapeHeader → List Mark → List Mark
-header_rest_marks h ts = parameters_marks h.parameters (colon ∷ dependencies_marks h.priors (subsequents_marks h.subsequents ts))
+abbrev pub header_rest_signs : ShapeHeader → List Sign → List Sign
+header_rest_signs h ts = parameters_signs h.parameters (colon ∷ dependencies_signs h.priors (subsequents_signs h.subsequents ts))
 
-abbrev pub header_marks : ShapeHeader → List Mark → List Mark
-header_marks h ts = at_marks h.quiet (word h.name ∷ header_rest_marks h ts)
+abbrev pub header_signs : ShapeHeader → List Sign → List Sign
+header_signs h ts = at_signs h.quiet (word h.name ∷ header_rest_signs h ts)
 
 -- ---- the text of the definitions is this text
 

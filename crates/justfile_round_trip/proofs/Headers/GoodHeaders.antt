@@ -4,9 +4,9 @@ use Rattle.std.specs.Str.{IsUtf8}
 use Rattle.justfile_model.specs.Grammars.Expressions.{BelowLimit}
 use Rattle.justfile_model.specs.Grammars.Headers.{HeaderOf}
 use Rattle.justfile_model.specs.Trees.Tree.{lexeme, nothing}
-use Rattle.justfile_round_trip.proofs.LiteralTexts.LexedModes.{Mark}
+use Rattle.justfile_round_trip.proofs.LiteralTexts.LexedModes.{Sign}
 use Rattle.justfile_round_trip.proofs.Canon.{Shown, Value}
-use Rattle.justfile_round_trip.proofs.Headers.CanonHeaders.{ShapeParameter, ShapeArgument, ShapeDependency, ShapeHeader, header_on, header_marks}
+use Rattle.justfile_round_trip.proofs.Headers.CanonHeaders.{ShapeParameter, ShapeArgument, ShapeDependency, ShapeHeader, header_on, header_signs}
 use Rattle.justfile_round_trip.proofs.Good.{GoodValue, ends_value, significant, GoodPath}
 use Rattle.justfile_round_trip.proofs.LiteralTexts.Inline.{IsName}
 
@@ -36,8 +36,8 @@ pub record LexesHeader (h : ShapeHeader) : Type 0 where
 module _ (limit : ℕ) where
   -- the header's tokens derive it, before any others that a value ends at
   pub record HeaderDerivesBack (h : ShapeHeader) (features : Shown) : Type 0 where
-    pub derives : (glued : Bool) (on : List Mark) → ends_value (significant true on) ≡ true
-        → HeaderOf lexeme nothing nothing (BelowLimit limit) h features (significant glued (header_marks h on)) (significant true on)
+    pub derives : (glued : Bool) (on : List Sign) → ends_value (significant true on) ≡ true
+        → HeaderOf lexeme nothing nothing (BelowLimit limit) h features (significant glued (header_signs h on)) (significant true on)
 
   pub record GoodHeader (h : ShapeHeader) : Type 0 where
     pub lexes : LexesHeader h

@@ -7,11 +7,11 @@ use Rattle.justfile_vocabulary.specs.declared.token_kind.TokenKind.TheVariants a
 use Rattle.justfile_model.specs.Trees.Tree.{AliasParts, AssignmentParts, FunctionParts, ImportParts, ModuleParts, SettingParts, Alias, Assignment, Function, Import, Module, Recipe, Setting, Unexport, Comment, Newline, Construct, Shape, bare_recipe}
 use Rattle.justfile_model.specs.Printed.Printing.{after_line_text, fixed_text, expr_text, body_text, doc_line, if_some, if_true, header_text, alias_text, assignment_text, function_text, import_text, module_text, setting_text, names_text, file_path_text, setting_value_text, entries_text, content_text, item_text, item_end, text}
 use Rattle.justfile_model.proofs.Printed.DocsText.{none_shown}
-use Rattle.justfile_round_trip.proofs.LiteralTexts.LexedModes.{Mark, mark}
-use Rattle.justfile_round_trip.proofs.Canon.{ShapeLine, ShapeContent, ShapeItem, paren_left, paren_right, space, newline, word, expr_on, expr_marks, body_on, body_marks, then, expr_is, body_is}
-use Rattle.justfile_round_trip.proofs.Attributes.CanonAttributes.{ShapeEntry, comment_on, entries_on, comment_marks, entries_marks, comment_is, entries_is}
-use Rattle.justfile_round_trip.proofs.Headers.CanonHeaders.{ShapeHeader, path_on, path_marks, path_is, header_on, header_marks, header_is}
-use Rattle.justfile_round_trip.proofs.Items.CanonParts.{colon_equals, word_on, question_on, names_on, file_path_on, optional_path_on, setting_value_on, word_marks, question_marks, names_marks, file_path_marks, optional_path_marks, setting_value_marks, word_is, question_is, names_is, file_path_is, optional_path_is, setting_value_is}
+use Rattle.justfile_round_trip.proofs.LiteralTexts.LexedModes.{Sign, sign}
+use Rattle.justfile_round_trip.proofs.Canon.{ShapeLine, ShapeContent, ShapeItem, paren_left, paren_right, space, newline, word, expr_on, expr_signs, body_on, body_signs, then, expr_is, body_is}
+use Rattle.justfile_round_trip.proofs.Attributes.CanonAttributes.{ShapeEntry, comment_on, entries_on, comment_signs, entries_signs, comment_is, entries_is}
+use Rattle.justfile_round_trip.proofs.Headers.CanonHeaders.{ShapeHeader, path_on, path_signs, path_is, header_on, header_signs, header_is}
+use Rattle.justfile_round_trip.proofs.Items.CanonParts.{colon_equals, word_on, question_on, names_on, file_path_on, optional_path_on, setting_value_on, word_signs, question_signs, names_signs, file_path_signs, optional_path_signs, setting_value_signs, word_is, question_is, names_is, file_path_is, optional_path_is, setting_value_is}
 
 -- a recipe without a doc, after attributes
 abbrev pub recipe_item : List ShapeEntry → ShapeHeader → (comment : Option (List ℕ)) → List ShapeLine → ShapeItem
@@ -51,22 +51,22 @@ item_on ind (Comment t) more = t ++ more
 item_on ind (Construct entries content) more = entries_on entries (content_on ind content more)
 
 -- of a recipe the header, with the comment after it
-abbrev pub content_marks : ShapeContent → List Mark → List Mark
-content_marks (Alias parts) ts = word (codes "alias") ∷ space ∷ word parts.name ∷ space ∷ colon_equals ∷ space ∷ path_marks parts.target ts
-content_marks (Assignment parts) ts =
-    word_marks parts.eager (codes "eager") (word_marks parts.export (codes "export") (word parts.name ∷ space ∷ colon_equals ∷ space ∷ expr_marks parts.value ts))
-content_marks (Function parts) ts =
-    word parts.name ∷ paren_left ∷ names_marks parts.parameters (paren_right ∷ space ∷ colon_equals ∷ space ∷ expr_marks parts.body ts)
-content_marks (Import parts) ts = word (codes "import") ∷ question_marks parts.optional (space ∷ file_path_marks parts.path ts)
-content_marks (Module parts) ts = word (codes "mod") ∷ question_marks parts.optional (space ∷ word parts.name ∷ optional_path_marks parts.path ts)
-content_marks (Recipe parts) ts = header_marks parts.header (comment_marks parts.comment ts)
-content_marks (Setting parts) ts = word (codes "set") ∷ space ∷ word parts.name ∷ setting_value_marks parts.value ts
-content_marks (Unexport name) ts = word (codes "unexport") ∷ space ∷ word name ∷ ts
+abbrev pub content_signs : ShapeContent → List Sign → List Sign
+content_signs (Alias parts) ts = word (codes "alias") ∷ space ∷ word parts.name ∷ space ∷ colon_equals ∷ space ∷ path_signs parts.target ts
+content_signs (Assignment parts) ts =
+    word_signs parts.eager (codes "eager") (word_signs parts.export (codes "export") (word parts.name ∷ space ∷ colon_equals ∷ space ∷ expr_signs parts.value ts))
+content_signs (Function parts) ts =
+    word parts.name ∷ paren_left ∷ names_signs parts.parameters (paren_right ∷ space ∷ colon_equals ∷ space ∷ expr_signs parts.body ts)
+content_signs (Import parts) ts = word (codes "import") ∷ question_signs parts.optional (space ∷ file_path_signs parts.path ts)
+content_signs (Module parts) ts = word (codes "mod") ∷ question_signs parts.optional (space ∷ word parts.name ∷ optional_path_signs parts.path ts)
+content_signs (Recipe parts) ts = header_signs parts.header (comment_signs parts.comment ts)
+content_signs (Setting parts) ts = word (codes "set") ∷ space ∷ word parts.name ∷ setting_value_signs parts.value ts
+content_signs (Unexport name) ts = word (codes "unexport") ∷ space ∷ word name ∷ ts
 
-abbrev pub item_marks : ShapeItem → List Mark → List Mark
-item_marks Newline ts = ts
-item_marks (Comment t) ts = mark kinds.Comment t ∷ ts
-item_marks (Construct entries content) ts = entries_marks entries (content_marks content ts)
+abbrev pub item_signs : ShapeItem → List Sign → List Sign
+item_signs Newline ts = ts
+item_signs (Comment t) ts = sign kinds.Comment t ∷ ts
+item_signs (Construct entries content) ts = entries_signs entries (content_signs content ts)
 
 -- the lines of the body of a recipe
 abbrev pub body_in : ShapeContent → List ShapeLine
@@ -84,24 +84,24 @@ end_on i [] more = more
 end_on i (Newline ∷ items) more = more
 end_on i (j ∷ items) more = 32 ∷ more
 
-abbrev pub end_marks : ShapeItem → Shape → List Mark → List Mark
-end_marks Newline items ts = newline ∷ ts
-end_marks i [] ts = ts
-end_marks i (Newline ∷ items) ts = ts
-end_marks i (j ∷ items) ts = space ∷ ts
+abbrev pub end_signs : ShapeItem → Shape → List Sign → List Sign
+end_signs Newline items ts = newline ∷ ts
+end_signs i [] ts = ts
+end_signs i (Newline ∷ items) ts = ts
+end_signs i (j ∷ items) ts = space ∷ ts
 
 abbrev pub text_on : List ℕ → Shape → List ℕ
 text_on ind [] = []
 text_on ind (i ∷ items) = item_on ind i (end_on i items (text_on ind items))
 
 -- Items after a header whose body has these lines. The line end after a body is that of its last line, and its Dedent comes after it.
-abbrev pub marks_from : List ℕ → (body : List ShapeLine) → Shape → List Mark
-marks_from ind body [] = []
-marks_from ind body (Newline ∷ items) = newline ∷ body_marks ind body (marks_from ind [] items)
-marks_from ind body (i ∷ items) = item_marks i (end_marks i items (marks_from ind (body_of i) items))
+abbrev pub signs_from : List ℕ → (body : List ShapeLine) → Shape → List Sign
+signs_from ind body [] = []
+signs_from ind body (Newline ∷ items) = newline ∷ body_signs ind body (signs_from ind [] items)
+signs_from ind body (i ∷ items) = item_signs i (end_signs i items (signs_from ind (body_of i) items))
 
-abbrev pub marks : List ℕ → Shape → List Mark
-marks ind items = marks_from ind [] items
+abbrev pub signs : List ℕ → Shape → List Sign
+signs ind items = signs_from ind [] items
 
 -- ---- the text of the definitions is this text
 

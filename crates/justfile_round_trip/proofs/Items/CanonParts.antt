@@ -4,9 +4,9 @@ use Rattle.justfile_vocabulary.specs.declared.token_kind.TokenKind.TheVariants a
 use Rattle.justfile_model.specs.Printed.Printing.{fixed_text, if_some, if_true, expr_text, exprs_text, names_text, file_path_text, setting_value_text}
 use Rattle.justfile_model.specs.Trees.Tree.{Quoted, SettingValue, Truth, Value, Interpreter}
 use Rattle.justfile_model.specs.Trees.Tree as tree
-use Rattle.justfile_round_trip.proofs.LiteralTexts.LexedModes.{Mark, mark}
+use Rattle.justfile_round_trip.proofs.LiteralTexts.LexedModes.{Sign, sign}
 use Rattle.justfile_round_trip.proofs.Canon as canon
-use Rattle.justfile_round_trip.proofs.Canon.{comma, space, word, expr_on, exprs_on, expr_marks, exprs_marks, then, joined, expr_is, exprs_is}
+use Rattle.justfile_round_trip.proofs.Canon.{comma, space, word, expr_on, exprs_on, expr_signs, exprs_signs, then, joined, expr_is, exprs_is}
 
 abbrev pub ShapeQuoted : Type 0
 ShapeQuoted = Quoted (List ℕ)
@@ -54,41 +54,41 @@ setting_value_on (Interpreter command arguments) more = codes " := [" ++ exprs_o
 
 -- ---- tokens
 
-abbrev pub colon_equals : Mark
-colon_equals = mark kinds.ColonEquals (58 ∷ 61 ∷ [])
+abbrev pub colon_equals : Sign
+colon_equals = sign kinds.ColonEquals (58 ∷ 61 ∷ [])
 
-abbrev pub question_mark : Mark
-question_mark = mark kinds.QuestionMark (63 ∷ [])
+abbrev pub question_mark : Sign
+question_mark = sign kinds.QuestionMark (63 ∷ [])
 
-abbrev pub word_marks : Bool → List ℕ → List Mark → List Mark
-word_marks true w ts = word w ∷ space ∷ ts
-word_marks false w ts = ts
+abbrev pub word_signs : Bool → List ℕ → List Sign → List Sign
+word_signs true w ts = word w ∷ space ∷ ts
+word_signs false w ts = ts
 
-abbrev pub question_marks : Bool → List Mark → List Mark
-question_marks true ts = question_mark ∷ ts
-question_marks false ts = ts
+abbrev pub question_signs : Bool → List Sign → List Sign
+question_signs true ts = question_mark ∷ ts
+question_signs false ts = ts
 
-abbrev pub other_names_marks : List (List ℕ) → List Mark → List Mark
-other_names_marks [] ts = ts
-other_names_marks (name ∷ names) ts = comma ∷ space ∷ word name ∷ other_names_marks names ts
+abbrev pub other_names_signs : List (List ℕ) → List Sign → List Sign
+other_names_signs [] ts = ts
+other_names_signs (name ∷ names) ts = comma ∷ space ∷ word name ∷ other_names_signs names ts
 
-abbrev pub names_marks : List (List ℕ) → List Mark → List Mark
-names_marks [] ts = ts
-names_marks (name ∷ names) ts = word name ∷ other_names_marks names ts
+abbrev pub names_signs : List (List ℕ) → List Sign → List Sign
+names_signs [] ts = ts
+names_signs (name ∷ names) ts = word name ∷ other_names_signs names ts
 
-abbrev pub file_path_marks : ShapeQuoted → List Mark → List Mark
-file_path_marks q ts = expr_marks (path_value q) ts
+abbrev pub file_path_signs : ShapeQuoted → List Sign → List Sign
+file_path_signs q ts = expr_signs (path_value q) ts
 
-abbrev pub optional_path_marks : Option ShapeQuoted → List Mark → List Mark
-optional_path_marks None ts = ts
-optional_path_marks (Some q) ts = space ∷ file_path_marks q ts
+abbrev pub optional_path_signs : Option ShapeQuoted → List Sign → List Sign
+optional_path_signs None ts = ts
+optional_path_signs (Some q) ts = space ∷ file_path_signs q ts
 
-abbrev pub setting_value_marks : ShapeSetting → List Mark → List Mark
-setting_value_marks (Truth true) ts = ts
-setting_value_marks (Truth false) ts = space ∷ colon_equals ∷ space ∷ word (codes "false") ∷ ts
-setting_value_marks (Value value) ts = space ∷ colon_equals ∷ space ∷ expr_marks value ts
-setting_value_marks (Interpreter command arguments) ts =
-    space ∷ colon_equals ∷ space ∷ mark kinds.BracketL (codes "[") ∷ exprs_marks (tree.more command arguments) (mark kinds.BracketR (codes "]") ∷ ts)
+abbrev pub setting_value_signs : ShapeSetting → List Sign → List Sign
+setting_value_signs (Truth true) ts = ts
+setting_value_signs (Truth false) ts = space ∷ colon_equals ∷ space ∷ word (codes "false") ∷ ts
+setting_value_signs (Value value) ts = space ∷ colon_equals ∷ space ∷ expr_signs value ts
+setting_value_signs (Interpreter command arguments) ts =
+    space ∷ colon_equals ∷ space ∷ sign kinds.BracketL (codes "[") ∷ exprs_signs (tree.more command arguments) (sign kinds.BracketR (codes "]") ∷ ts)
 
 -- ---- the text of the definitions is this text
 

@@ -9,8 +9,8 @@ use Rattle.justfile_model.specs.Grammars.Expressions.{Sequence, BelowLimit}
 use Rattle.justfile_model.specs.Grammars.Settings.{ExpressionForm, InterpreterForm, PlainForm, SettingForm, TruthForm, setting_form}
 use Rattle.justfile_model.specs.Trees.Tree as tree
 use Rattle.justfile_model.specs.Trees.Tree.{assignment_of, bare_module, bare_recipe, lexeme, nothing}
-use Rattle.justfile_round_trip.proofs.LiteralTexts.LexedModes.{Mark, mark}
-use Rattle.justfile_round_trip.proofs.Canon.{Shown, Value, Values, ShapeContent, exprs_on, exprs_marks}
+use Rattle.justfile_round_trip.proofs.LiteralTexts.LexedModes.{Sign, sign}
+use Rattle.justfile_round_trip.proofs.Canon.{Shown, Value, Values, ShapeContent, exprs_on, exprs_signs}
 use Rattle.justfile_round_trip.proofs.Headers.CanonHeaders.{ShapeHeader}
 use Rattle.justfile_round_trip.proofs.Items.CanonItems.{body_in}
 use Rattle.justfile_round_trip.proofs.Items.CanonParts.{ShapeQuoted, ShapeSetting}
@@ -28,8 +28,8 @@ GoodOptionalPath (Some q) = GoodFilePath q
 module _ (limit : ℕ) where
   -- the tokens of expressions in brackets derive them
   pub record SequenceDerivesBack (es : Values) (features : Shown) : Type 0 where
-    pub derives : (glued : Bool) (on : List Mark)
-        → Sequence lexeme nothing (BelowLimit limit) kinds.BracketR 0 es features (significant glued (exprs_marks es (mark kinds.BracketR (codes "]") ∷ on))) (significant true on)
+    pub derives : (glued : Bool) (on : List Sign)
+        → Sequence lexeme nothing (BelowLimit limit) kinds.BracketR 0 es features (significant glued (exprs_signs es (sign kinds.BracketR (codes "]") ∷ on))) (significant true on)
 
   -- expressions in brackets that no other is open around
   pub record GoodSequence (es : Values) : Type 0 where

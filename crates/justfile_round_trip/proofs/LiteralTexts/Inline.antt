@@ -25,7 +25,7 @@ use Rattle.justfile_model.specs.Lexing.Tok.{Tok}
 use Rattle.justfile_model.specs.Lexing.Places.{is_line_feed}
 use Rattle.justfile_model.specs.Lexing.Modes.{Mode, is_empty, opener, mode_after}
 use Rattle.justfile_model.specs.Lexing.Next.{token_by_class, token_within_line, next, literal_token, literal_part, is_backtick}
-use Rattle.justfile_round_trip.proofs.LiteralTexts.LexedModes.{Mark, mark, LexesTo, step, drop_front}
+use Rattle.justfile_round_trip.proofs.LiteralTexts.LexedModes.{Sign, sign, LexesTo, step, drop_front}
 
 -- each byte passes
 abbrev pub Each : (ByteClass → Bool) → List ℕ → Type 0
@@ -110,7 +110,7 @@ and_false true b c e = rw e refl
 and_false false b c e = refl
 
 module _ {os : List OpenDelimiter} {ls : List (List ℕ)} {c : Bool} {i : Option Tok} {f : Bool} where
-  pub name_step : (n : List ℕ) {more : List ℕ} {ts : List Mark} → IsName n → head_is in_word more ≡ false → LexesTo (amid os ls c i (bytes_eq n (102 ∷ []))) more ts → LexesTo (amid os ls c i f) (n ++ more) (mark Identifier n ∷ ts)
+  pub name_step : (n : List ℕ) {more : List ℕ} {ts : List Sign} → IsName n → head_is in_word more ≡ false → LexesTo (amid os ls c i (bytes_eq n (102 ∷ []))) more ts → LexesTo (amid os ls c i f) (n ++ more) (sign Identifier n ∷ ts)
   unfolding token_by_class
   name_step [] h stop k = absurd h
   name_step (x ∷ xs) {more} {ts} h stop k =
@@ -121,11 +121,11 @@ module _ {os : List OpenDelimiter} {ls : List (List ℕ)} {c : Bool} {i : Option
       ∙ ap (λ n. Ok (Identifier, n)) (run_each in_word (x ∷ xs) more word stop))
       (λ e. cc) (λ o n col. k)
 
-  pub word_step : (w : List ℕ) {more : List ℕ} {ts : List Mark} → is_word w ≡ true → head_is in_word more ≡ false
-      → LexesTo (amid os ls c i (bytes_eq w (102 ∷ []))) more ts → LexesTo (amid os ls c i f) (w ++ more) (mark Identifier w ∷ ts)
+  pub word_step : (w : List ℕ) {more : List ℕ} {ts : List Sign} → is_word w ≡ true → head_is in_word more ≡ false
+      → LexesTo (amid os ls c i (bytes_eq w (102 ∷ []))) more ts → LexesTo (amid os ls c i f) (w ++ more) (sign Identifier w ∷ ts)
   word_step w h stop k = name_step w (word_name w h) stop k
 
-  pub space_step : {more : List ℕ} {ts : List Mark} → head_is blank more ≡ false → LexesTo (amid os ls c i false) more ts → LexesTo (amid os ls c i f) (32 ∷ more) (mark Whitespace (32 ∷ []) ∷ ts)
+  pub space_step : {more : List ℕ} {ts : List Sign} → head_is blank more ≡ false → LexesTo (amid os ls c i false) more ts → LexesTo (amid os ls c i f) (32 ∷ more) (sign Whitespace (32 ∷ []) ∷ ts)
   unfolding token_by_class class_of
   space_step {more} {ts} stop k =
       step (amid os ls c i f) Whitespace (32 ∷ []) more ts
@@ -249,7 +249,7 @@ unfolding token_by_class class_of
 brace_next os ls c i k line xs = amid_next (opener (FormatString k) line ∷ os) ls c i false 125 (125 ∷ xs) refl
 
 module _ {os : List OpenDelimiter} {ls : List (List ℕ)} {c : Bool} {i : Option Tok} where
-  pub literal_step : (k : StringKind) (l more : List ℕ) {ts : List Mark} → IsLiteral k l → head_is joins more ≡ false → LexesTo (amid os ls c i false) more ts → LexesTo (amid os ls c i false) (l ++ more) (mark (token_kind_of k.delimiter) l ∷ ts)
+  pub literal_step : (k : StringKind) (l more : List ℕ) {ts : List Sign} → IsLiteral k l → head_is joins more ≡ false → LexesTo (amid os ls c i false) more ts → LexesTo (amid os ls c i false) (l ++ more) (sign (token_kind_of k.delimiter) l ∷ ts)
   literal_step k l more {ts} h stop r =
       let m : Mode = amid os ls c i false in
       let whole : l ++ more ≡ delimiter_of k ++ (h.inner ++ (delimiter_of k ++ more)) = ap (λ x. x ++ more) h.is ∙ assoc3 (delimiter_of k) h.inner (delimiter_of k) more in
@@ -259,8 +259,8 @@ module _ {os : List OpenDelimiter} {ls : List (List ℕ)} {c : Bool} {i : Option
       (λ o n col. subst (λ m. LexesTo m more ts) (sym (after_literal os ls c i k.delimiter false _)) r)
 
   -- after `f`: a format string without interpolations
-  pub whole_step : (k : StringKind) (l more : List ℕ) {ts : List Mark} → (h : IsLiteral k l) → ((more : List ℕ) → raw_len (raw_texts.Literal k true) (h.inner ++ (delimiter_of k ++ more)) ≡ length h.inner) → is_backtick k.delimiter ≡ false
-      → head_is joins more ≡ false → LexesTo (amid os ls c i false) more ts → LexesTo (amid os ls c i true) (l ++ more) (mark (token_kind_of k.delimiter) l ∷ ts)
+  pub whole_step : (k : StringKind) (l more : List ℕ) {ts : List Sign} → (h : IsLiteral k l) → ((more : List ℕ) → raw_len (raw_texts.Literal k true) (h.inner ++ (delimiter_of k ++ more)) ≡ length h.inner) → is_backtick k.delimiter ≡ false
+      → head_is joins more ≡ false → LexesTo (amid os ls c i false) more ts → LexesTo (amid os ls c i true) (l ++ more) (sign (token_kind_of k.delimiter) l ∷ ts)
   whole_step k l more {ts} h ends quote stop r =
       let m : Mode = amid os ls c i true in
       let inner = h.inner in
@@ -278,8 +278,8 @@ module _ {os : List OpenDelimiter} {ls : List (List ℕ)} {c : Bool} {i : Option
       (λ o n col. subst (λ m. LexesTo m more ts) (sym (after_literal os ls c i k.delimiter true _)) r)
 
   -- after f: up to two braces
-  pub start_step : (k : StringKind) (l more : List ℕ) {ts : List Mark} → IsPart k (delimiter_of k) false l → is_backtick k.delimiter ≡ false → ((more : List ℕ) → kind_of (l ++ more) ≡ k)
-      → ((line : ℕ) → LexesTo (amid (opener (FormatString k) line ∷ os) ls c i false) (32 ∷ more) ts) → LexesTo (amid os ls c i true) (l ++ (32 ∷ more)) (mark FormatStringStart l ∷ ts)
+  pub start_step : (k : StringKind) (l more : List ℕ) {ts : List Sign} → IsPart k (delimiter_of k) false l → is_backtick k.delimiter ≡ false → ((more : List ℕ) → kind_of (l ++ more) ≡ k)
+      → ((line : ℕ) → LexesTo (amid (opener (FormatString k) line ∷ os) ls c i false) (32 ∷ more) ts) → LexesTo (amid os ls c i true) (l ++ (32 ∷ more)) (sign FormatStringStart l ∷ ts)
   start_step k l more {ts} h quote opens r =
       let inner = h.inner in
       let tail : List ℕ = inner ++ (123 ∷ 123 ∷ 32 ∷ more) in
@@ -295,8 +295,8 @@ module _ {os : List OpenDelimiter} {ls : List (List ℕ)} {c : Bool} {i : Option
       (λ e. cc)
       (λ o n col. subst (λ v. LexesTo (amid (opener (FormatString v) (n + count_by is_line_feed l) ∷ os) ls c i false) (32 ∷ more) ts) (sym kind) (r _))
 
-  pub continue_step : (k : StringKind) (line : ℕ) (l more : List ℕ) {ts : List Mark} → IsPart k (125 ∷ 125 ∷ []) false l
-      → LexesTo (amid (opener (FormatString k) line ∷ os) ls c i false) (32 ∷ more) ts → LexesTo (amid (opener (FormatString k) line ∷ os) ls c i false) (l ++ (32 ∷ more)) (mark FormatStringContinue l ∷ ts)
+  pub continue_step : (k : StringKind) (line : ℕ) (l more : List ℕ) {ts : List Sign} → IsPart k (125 ∷ 125 ∷ []) false l
+      → LexesTo (amid (opener (FormatString k) line ∷ os) ls c i false) (32 ∷ more) ts → LexesTo (amid (opener (FormatString k) line ∷ os) ls c i false) (l ++ (32 ∷ more)) (sign FormatStringContinue l ∷ ts)
   continue_step k line l more {ts} h r =
       let inner = h.inner in
       let tail : List ℕ = inner ++ (123 ∷ 123 ∷ 32 ∷ more) in
@@ -307,8 +307,8 @@ module _ {os : List OpenDelimiter} {ls : List (List ℕ)} {c : Bool} {i : Option
       (ap (next m) whole ∙ brace_next os ls c i k line tail ∙ part_is k true (125 ∷ 125 ∷ []) inner (123 ∷ 123 ∷ 32 ∷ more) FormatStringContinue FormatStringEnd (h.ends more) refl ∙ ap (λ n. Ok (FormatStringContinue, n)) len)
       (λ e. cc) (λ o n col. r)
 
-  pub end_step : (k : StringKind) (line : ℕ) (l more : List ℕ) {ts : List Mark} → IsPart k (125 ∷ 125 ∷ []) true l
-      → LexesTo (amid os ls c i false) more ts → LexesTo (amid (opener (FormatString k) line ∷ os) ls c i false) (l ++ more) (mark FormatStringEnd l ∷ ts)
+  pub end_step : (k : StringKind) (line : ℕ) (l more : List ℕ) {ts : List Sign} → IsPart k (125 ∷ 125 ∷ []) true l
+      → LexesTo (amid os ls c i false) more ts → LexesTo (amid (opener (FormatString k) line ∷ os) ls c i false) (l ++ more) (sign FormatStringEnd l ∷ ts)
   end_step k line l more {ts} h r =
       let inner = h.inner in
       let tail : List ℕ = inner ++ (delimiter_of k ++ more) in

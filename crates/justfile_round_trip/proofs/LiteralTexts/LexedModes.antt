@@ -11,40 +11,40 @@ use Rattle.justfile_model.specs.Lexing.Lexed.{end_of, IsNext, Follows, Lexed}
 use Rattle.justfile_model.proofs.Lexing.LexedLaws.{from_follows}
 
 -- a token without its place
-pub record Mark : Type 0 where
+pub record Sign : Type 0 where
   pub kind : TokenKind
   pub lexeme : List ℕ
 
-abbrev pub mark : TokenKind → List ℕ → Mark
-mark k l = record { kind = k; lexeme = l }
+abbrev pub sign : TokenKind → List ℕ → Sign
+sign k l = record { kind = k; lexeme = l }
 
-abbrev pub placed : Mark → (offset line column : ℕ) → Tok
+abbrev pub placed : Sign → (offset line column : ℕ) → Tok
 placed t o l c = record { kind = t.kind; lexeme = t.lexeme; offset = o; line = l; column = c }
 
-abbrev pub tok_at : List ℕ → ℕ → Mark → Tok
+abbrev pub tok_at : List ℕ → ℕ → Sign → Tok
 tok_at text offset t = placed t offset (line_of_offset text offset) (column_at text offset)
 
 -- these tokens, from the offset on, are the tokens of the rest
-abbrev pub LexesIn : List ℕ → ℕ → Mode → List ℕ → List Mark → Type 0
+abbrev pub LexesIn : List ℕ → ℕ → Mode → List ℕ → List Sign → Type 0
 LexesIn text offset m rest [] = (rest ≡ []) × (next m [] ≡ Ok (Eof, 0))
 LexesIn text offset m rest (t ∷ ts) =
     (following : List ℕ) × (rest ≡ t.lexeme ++ following) × (next m rest ≡ Ok (t.kind, length t.lexeme)) × (t.kind ≢ Eof)
     × LexesIn text (offset + length t.lexeme) (mode_after t.kind (tok_at text offset t) m) following ts
 
 -- the rest of a text is lexed to these tokens, at any position
-pub record LexesTo (m : Mode) (rest : List ℕ) (ts : List Mark) : Type 0 where
+pub record LexesTo (m : Mode) (rest : List ℕ) (ts : List Sign) : Type 0 where
   pub is : (text : List ℕ) (offset : ℕ) → LexesIn text offset m rest ts
 
 -- one token, and the rest, at any position of the token
-pub step : (m : Mode) (k : TokenKind) (l following : List ℕ) (ts : List Mark) → next m (l ++ following) ≡ Ok (k, length l) → k ≢ Eof → ((o n c : ℕ) → LexesTo (mode_after k (placed (mark k l) o n c) m) following ts) → LexesTo m (l ++ following) (mark k l ∷ ts)
+pub step : (m : Mode) (k : TokenKind) (l following : List ℕ) (ts : List Sign) → next m (l ++ following) ≡ Ok (k, length l) → k ≢ Eof → ((o n c : ℕ) → LexesTo (mode_after k (placed (sign k l) o n c) m) following ts) → LexesTo m (l ++ following) (sign k l ∷ ts)
 step m k l following ts found goes_on more = record { is = λ text offset. (following, refl, found, goes_on, (more offset (line_of_offset text offset) (column_at text offset)).is text (offset + length l)) }
 
 pub end : (m : Mode) → next m [] ≡ Ok (Eof, 0) → LexesTo m [] []
 end m e = record { is = λ text offset. (refl, e) }
 
 -- the tokens with their places
-abbrev pub toks : List ℕ → ℕ → List Mark → List Tok
-toks text offset [] = tok_at text offset (mark Eof []) ∷ []
+abbrev pub toks : List ℕ → ℕ → List Sign → List Tok
+toks text offset [] = tok_at text offset (sign Eof []) ∷ []
 toks text offset (t ∷ ts) = tok_at text offset t ∷ toks text (offset + length t.lexeme) ts
 
 pub take_front : (xs ys : List ℕ) → take (length xs) (xs ++ ys) ≡ xs
@@ -63,7 +63,7 @@ cons_follows text e t [] n g f = absurd f
 cons_follows text e t (u ∷ us) n g f = (n, g, f)
 
 module _ (text : List ℕ) where
-  is_next : (e : List Tok) (t : Mark) (m : Mode) (offset : ℕ) (rest following : List ℕ) → mode e ≡ m → end_of e ≡ offset → drop offset text ≡ rest → rest ≡ t.lexeme ++ following → next m rest ≡ Ok (t.kind, length t.lexeme) → IsNext text e (tok_at text offset t)
+  is_next : (e : List Tok) (t : Sign) (m : Mode) (offset : ℕ) (rest following : List ℕ) → mode e ≡ m → end_of e ≡ offset → drop offset text ≡ rest → rest ≡ t.lexeme ++ following → next m rest ≡ Ok (t.kind, length t.lexeme) → IsNext text e (tok_at text offset t)
   is_next e t m offset rest following em eo er split found = record {
     stands = record {
       offset_is = sym eo;
@@ -74,8 +74,8 @@ module _ (text : List ℕ) where
     found = (λ i. next (em i) ((ap (λ n. drop n text) eo ∙ er) i)) ∙ found;
   }
 
-  pub follows : (ts : List Mark) (e : List Tok) (m : Mode) (offset : ℕ) (rest : List ℕ) → mode e ≡ m → end_of e ≡ offset → drop offset text ≡ rest → LexesIn text offset m rest ts → Follows text e (toks text offset ts)
-  follows [] e m offset rest em eo er h = (is_next e (mark Eof []) m offset rest [] em eo er h.0 (ap (next m) h.0 ∙ h.1), refl)
+  pub follows : (ts : List Sign) (e : List Tok) (m : Mode) (offset : ℕ) (rest : List ℕ) → mode e ≡ m → end_of e ≡ offset → drop offset text ≡ rest → LexesIn text offset m rest ts → Follows text e (toks text offset ts)
+  follows [] e m offset rest em eo er h = (is_next e (sign Eof []) m offset rest [] em eo er h.0 (ap (next m) h.0 ∙ h.1), refl)
   follows (t ∷ ts) e m offset rest em eo er h =
       let following = h.0 in
       let moved : drop (offset + length t.lexeme) text ≡ following = drop_drop offset (length t.lexeme) text ∙ ap (drop (length t.lexeme)) (er ∙ h.1) ∙ drop_front t.lexeme following in
@@ -83,5 +83,5 @@ module _ (text : List ℕ) where
       (follows ts (tok_at text offset t ∷ e) (mode_after t.kind (tok_at text offset t) m) (offset + length t.lexeme) following (ap (mode_after t.kind (tok_at text offset t)) em) refl moved h.4)
 
 -- what reads from the start is the text's tokens
-pub lexed : (text : List ℕ) (ts : List Mark) → LexesTo start_mode text ts → Lexed text (toks text 0 ts)
+pub lexed : (text : List ℕ) (ts : List Sign) → LexesTo start_mode text ts → Lexed text (toks text 0 ts)
 lexed text ts r = from_follows text [] (toks text 0 ts) tt (follows text ts [] start_mode 0 text refl refl refl (r.is text 0))

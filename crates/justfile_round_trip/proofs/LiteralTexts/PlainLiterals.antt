@@ -25,7 +25,7 @@ use Rattle.justfile_model.specs.Trees.Tree as tree
 use Rattle.justfile_model.specs.Trees.Tree.{lexeme, nothing}
 use Rattle.justfile_model.specs.Grammars.Expressions as g
 use Rattle.justfile_model.specs.Grammars.Expressions.{BelowLimit, Expression}
-use Rattle.justfile_round_trip.proofs.LiteralTexts.LexedModes.{mark, placed}
+use Rattle.justfile_round_trip.proofs.LiteralTexts.LexedModes.{sign, placed}
 use Rattle.justfile_round_trip.proofs.LiteralTexts.Literals.{scan, delimiter_ends, no_quote}
 use Rattle.justfile_round_trip.proofs.Canon as canon
 use Rattle.justfile_round_trip.proofs.Canon.{paren_right}
@@ -106,7 +106,7 @@ some_limit h = by (h.derives.derives false (paren_right ∷ []) refl)
     by (g.disjunct o l next) = o
 
 literal_token : List ℕ → SignificantToken
-literal_token l = record { tok = placed (mark kinds.StringToken l) 0 0 0; glued = false }
+literal_token l = record { tok = placed (sign kinds.StringToken l) 0 0 0; glued = false }
 
 -- a literal alone
 literal_derives : (limit : ℕ) (l : List ℕ) → 0 < limit

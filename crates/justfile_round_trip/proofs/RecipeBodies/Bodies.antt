@@ -7,12 +7,12 @@ use Rattle.justfile_vocabulary.specs.ByteClass.{class_of}
 use Rattle.justfile_model.specs.Lexing.Bytes.{blank, white, line_feed, blank_len, closes_levels}
 use Rattle.justfile_model.specs.Lexing.Next.{begins_blank_line}
 use Rattle.justfile_model.specs.Trees.Tree.{Text, Interpolation, Line}
-use Rattle.justfile_round_trip.proofs.LiteralTexts.LexedModes.{Mark, mark, LexesTo}
+use Rattle.justfile_round_trip.proofs.LiteralTexts.LexedModes.{Sign, sign, LexesTo}
 use Rattle.justfile_round_trip.proofs.LiteralTexts.Inline.{head_is, amid, space_step}
 use Rattle.justfile_round_trip.proofs.RecipeBodies.Lines.{at_item, line_end}
 use Rattle.justfile_round_trip.proofs.RecipeBodies.BodyLines.{at_line, in_line, IsLevel, text_step, body_line_end, interpolation_start, interpolation_end, empty_step, indent_step, level_step, white_blanks, closes_over, closes_feed, closes_nothing, ends_body, dedent_step}
 use Rattle.justfile_round_trip.proofs.LiteralTexts.RawTexts.{NoFeed, raw_no_feed, not_blank_line, text_no_end}
-use Rattle.justfile_round_trip.proofs.Canon.{Value, Fragment, ShapeLine, newline, space, fragment_on, fragments_on, lines_on, body_on, body_on_is, fragment_marks, fragments_marks, lines_marks, body_marks}
+use Rattle.justfile_round_trip.proofs.Canon.{Value, Fragment, ShapeLine, newline, space, fragment_on, fragments_on, lines_on, body_on, body_on_is, fragment_signs, fragments_signs, lines_signs, body_signs}
 use Rattle.justfile_round_trip.proofs.Good.{GoodComment, GoodExpression, GoodFragments, IsShown, IsFirst, GoodLines, GoodBody, pale, pale_line, all_pale, pale_after}
 use Rattle.justfile_round_trip.proofs.Attributes.LexesAttributes.{trailing}
 use Rattle.justfile_round_trip.proofs.Values.LexesValues.{value_no_blank, lex_value}
@@ -36,12 +36,12 @@ both false b c = refl
 module _ (limit : ℕ) where
   -- ---- inside a line
 
-  value_step : (ind : List ℕ) (e : Value) {more : List ℕ} {ts : List Mark} → GoodExpression limit e → LexesTo (in_line ind) more ts → LexesTo (in_line ind) (fragment_on (Interpolation e) more) (fragment_marks (Interpolation e) ts)
+  value_step : (ind : List ℕ) (e : Value) {more : List ℕ} {ts : List Sign} → GoodExpression limit e → LexesTo (in_line ind) more ts → LexesTo (in_line ind) (fragment_on (Interpolation e) more) (fragment_signs (Interpolation e) ts)
   unfolding class_of
   value_step ind e {more} {ts} h k =
       interpolation_start ind _ _ (λ t. space_step (value_no_blank e (32 ∷ 125 ∷ 125 ∷ more) h.lexes) (lex_value (ind ∷ []) true (Some t) [] e h.lexes refl (λ f. space_step refl (interpolation_end ind more t ts k))))
 
-  pub fragments_step : (ind : List ℕ) (fs : List Fragment) (more : List ℕ) (ts : List Mark) → GoodFragments limit fs → LexesTo (in_line ind) (10 ∷ more) ts → LexesTo (in_line ind) (fragments_on fs (10 ∷ more)) (fragments_marks fs ts)
+  pub fragments_step : (ind : List ℕ) (fs : List Fragment) (more : List ℕ) (ts : List Sign) → GoodFragments limit fs → LexesTo (in_line ind) (10 ∷ more) ts → LexesTo (in_line ind) (fragments_on fs (10 ∷ more)) (fragments_signs fs ts)
   fragments_step ind [] more ts h k = k
   fragments_step ind (Text t ∷ []) more ts h k = text_step ind t (10 ∷ []) more ts h.0 k
   fragments_step ind (Text t ∷ Text u ∷ fs) more ts h k = absurd h
@@ -102,7 +102,7 @@ module _ (limit : ℕ) where
 
   -- ---- lines, and the whole body
 
-  pub lines_step : (ind : List ℕ) (ls : List ShapeLine) (more : List ℕ) (ts : List Mark) → IsLevel ind → GoodLines limit ls → (pale_after ls ≡ true → more ≡ []) → LexesTo (at_line ind) more ts → LexesTo (at_line ind) (lines_on ind ls more) (lines_marks ind ls ts)
+  pub lines_step : (ind : List ℕ) (ls : List ShapeLine) (more : List ℕ) (ts : List Sign) → IsLevel ind → GoodLines limit ls → (pale_after ls ≡ true → more ≡ []) → LexesTo (at_line ind) more ts → LexesTo (at_line ind) (lines_on ind ls more) (lines_signs ind ls ts)
   lines_step ind [] more ts i good h k = k
   lines_step ind (Line n [] ∷ ls) more ts i good h k =
       empty_step ind _ _ (stays_open ind ls more i good.2 (λ p. h (ap (λ b. b || pale_after ls) p)))
@@ -111,24 +111,24 @@ module _ (limit : ℕ) where
       level_step ind _ _ i (shown f fs _ good.0 good.1) (fragments_step ind (f ∷ fs) _ _ good.0 (body_line_end ind _ _ (lines_step ind ls more ts i good.2 h k)))
 
   -- a body is lexed back from the start of its first line, and the text after it from the start of an item
-  pub lex_body : (ind : List ℕ) (ls : List ShapeLine) (more : List ℕ) (ts : List Mark) → IsLevel ind → GoodBody limit ls → ends_body more ≡ true → (pale_after ls ≡ true → more ≡ [])
-      → LexesTo (at_item false) more ts → LexesTo (at_item true) (lines_on ind ls more) (body_marks ind ls ts)
+  pub lex_body : (ind : List ℕ) (ls : List ShapeLine) (more : List ℕ) (ts : List Sign) → IsLevel ind → GoodBody limit ls → ends_body more ≡ true → (pale_after ls ≡ true → more ≡ [])
+      → LexesTo (at_item false) more ts → LexesTo (at_item true) (lines_on ind ls more) (body_signs ind ls ts)
   lex_body ind [] more ts i good following h k = absurd good
   lex_body ind (Line n [] ∷ ls) more ts i good following h k = absurd good.0
   lex_body ind (Line n (f ∷ fs) ∷ ls) more ts i good following h k =
       indent_step ind _ _ i (first_no_blank (f ∷ fs) _ good.1 good.0) (first_no_end (f ∷ fs) _ good.1 good.0)
-      (fragments_step ind (f ∷ fs) _ _ good.1 (body_line_end ind _ _ (lines_step ind ls more (mark kinds.Dedent [] ∷ ts) i good.2 h (dedent_step ind more ts i following k))))
+      (fragments_step ind (f ∷ fs) _ _ good.1 (body_line_end ind _ _ (lines_step ind ls more (sign kinds.Dedent [] ∷ ts) i good.2 h (dedent_step ind more ts i following k))))
 
   -- after the header of a recipe: its line end, the body, and the line end of the body's last line
-  pub lex_after_header : (f : Bool) (ind : List ℕ) (ls : List ShapeLine) (more : List ℕ) (ts : List Mark) → IsLevel ind → GoodBody limit ls → ends_body more ≡ true → (pale_after ls ≡ true → more ≡ [])
-      → LexesTo (at_item false) more ts → LexesTo (amid [] [] true None f) (body_on ind ls (10 ∷ more)) (newline ∷ body_marks ind ls ts)
+  pub lex_after_header : (f : Bool) (ind : List ℕ) (ls : List ShapeLine) (more : List ℕ) (ts : List Sign) → IsLevel ind → GoodBody limit ls → ends_body more ≡ true → (pale_after ls ≡ true → more ≡ [])
+      → LexesTo (at_item false) more ts → LexesTo (amid [] [] true None f) (body_on ind ls (10 ∷ more)) (newline ∷ body_signs ind ls ts)
   lex_after_header f ind ls more ts i good following h k =
-      subst (λ x. LexesTo (amid [] [] true None f) x (newline ∷ body_marks ind ls ts)) (sym (body_on_is ind ls more)) (line_end true f (lex_body ind ls more ts i good following h k))
+      subst (λ x. LexesTo (amid [] [] true None f) x (newline ∷ body_signs ind ls ts)) (sym (body_on_is ind ls more)) (line_end true f (lex_body ind ls more ts i good following h k))
 
   -- after the header of a recipe and the blank after it: a comment, its line end, the body, and the line end of the body's last line
-  pub lex_after_comment : (f : Bool) (ind t : List ℕ) (ls : List ShapeLine) (more : List ℕ) (ts : List Mark) → IsLevel ind → GoodComment t → GoodBody limit ls
+  pub lex_after_comment : (f : Bool) (ind t : List ℕ) (ls : List ShapeLine) (more : List ℕ) (ts : List Sign) → IsLevel ind → GoodComment t → GoodBody limit ls
       → ends_body more ≡ true → (pale_after ls ≡ true → more ≡ []) → LexesTo (at_item false) more ts
-      → LexesTo (amid [] [] true None f) (32 ∷ (t ++ body_on ind ls (10 ∷ more))) (space ∷ mark kinds.Comment t ∷ newline ∷ body_marks ind ls ts)
+      → LexesTo (amid [] [] true None f) (32 ∷ (t ++ body_on ind ls (10 ∷ more))) (space ∷ sign kinds.Comment t ∷ newline ∷ body_signs ind ls ts)
   lex_after_comment f ind t ls more ts i commented good following h k =
-      subst (λ x. LexesTo (amid [] [] true None f) (32 ∷ (t ++ x)) (space ∷ mark kinds.Comment t ∷ newline ∷ body_marks ind ls ts)) (sym (body_on_is ind ls more))
+      subst (λ x. LexesTo (amid [] [] true None f) (32 ∷ (t ++ x)) (space ∷ sign kinds.Comment t ∷ newline ∷ body_signs ind ls ts)) (sym (body_on_is ind ls more))
       (trailing true f t commented (lex_body ind ls more ts i good following h k))

@@ -21,7 +21,7 @@ use Rattle.justfile_model.specs.Lexing.LiteralText.{pieces_len, raw_len}
 use Rattle.justfile_model.specs.Lexing.Tok.{Tok}
 use Rattle.justfile_model.specs.Lexing.Modes.{Mode, is_empty}
 use Rattle.justfile_model.specs.Lexing.Next.{fixed_token, token_by_class, token_within_line, body_token, text_or, layout, begins_blank_line, next}
-use Rattle.justfile_round_trip.proofs.LiteralTexts.LexedModes.{Mark, mark, LexesTo, step, take_front}
+use Rattle.justfile_round_trip.proofs.LiteralTexts.LexedModes.{Sign, sign, LexesTo, step, take_front}
 use Rattle.justfile_round_trip.proofs.LiteralTexts.Inline.{Each, head_is, amid, amid_next}
 use Rattle.justfile_round_trip.proofs.RecipeBodies.Lines.{at_item, run_more, laid_after, same_both}
 
@@ -77,8 +77,8 @@ level_is (x ∷ xs) i =
 -- ---- in front of a body
 
 -- a colon before a byte that doesn't lengthen it
-pub colon_step : {os : List OpenDelimiter} {ls : List (List ℕ)} {c : Bool} {i : Option Tok} {f : Bool} (x : ℕ) {more : List ℕ} {ts : List Mark} → eqb x 61 ≡ false → eqb x 58 ≡ false → LexesTo (amid os ls true i false) (x ∷ more) ts
-    → LexesTo (amid os ls c i f) (58 ∷ x ∷ more) (mark Colon (58 ∷ []) ∷ ts)
+pub colon_step : {os : List OpenDelimiter} {ls : List (List ℕ)} {c : Bool} {i : Option Tok} {f : Bool} (x : ℕ) {more : List ℕ} {ts : List Sign} → eqb x 61 ≡ false → eqb x 58 ≡ false → LexesTo (amid os ls true i false) (x ∷ more) ts
+    → LexesTo (amid os ls c i f) (58 ∷ x ∷ more) (sign Colon (58 ∷ []) ∷ ts)
 unfolding token_by_class class_of fixed_token
 colon_step {os} {ls} {c} {i} {f} x {more} {ts} equals colon k =
     step (amid os ls c i f) Colon (58 ∷ []) (x ∷ more) ts
@@ -92,27 +92,27 @@ pub record IsRaw (t stop : List ℕ) : Type 0 where
   pub some : is_empty t ≡ false
   pub ends : (more : List ℕ) → raw_len raw_texts.Body (t ++ (stop ++ more)) ≡ length t
 
-pub text_step : (ind t stop more : List ℕ) (ts : List Mark) → IsRaw t stop → LexesTo (in_line ind) (stop ++ more) ts → LexesTo (in_line ind) (t ++ (stop ++ more)) (mark Text t ∷ ts)
+pub text_step : (ind t stop more : List ℕ) (ts : List Sign) → IsRaw t stop → LexesTo (in_line ind) (stop ++ more) ts → LexesTo (in_line ind) (t ++ (stop ++ more)) (sign Text t ∷ ts)
 unfolding next token_within_line body_token
 text_step ind [] stop more ts h k = let e = h.some in cc
 text_step ind (x ∷ xs) stop more ts h k = step (in_line ind) Text (x ∷ xs) (stop ++ more) ts (ap (λ n. text_or n x) (h.ends more)) (λ e. cc) (λ o n c. k)
 
-pub body_line_end : (ind more : List ℕ) (ts : List Mark) → LexesTo (at_line ind) more ts → LexesTo (in_line ind) (10 ∷ more) (mark Eol (10 ∷ []) ∷ ts)
+pub body_line_end : (ind more : List ℕ) (ts : List Sign) → LexesTo (at_line ind) more ts → LexesTo (in_line ind) (10 ∷ more) (sign Eol (10 ∷ []) ∷ ts)
 unfolding next token_within_line body_token pieces_len
 body_line_end ind more ts k = step (in_line ind) Eol (10 ∷ []) more ts refl (λ e. cc) (λ o n c. k)
 
-pub interpolation_start : (ind more : List ℕ) (ts : List Mark) → ((t : Tok) → LexesTo (amid [] (ind ∷ []) true (Some t) false) (32 ∷ more) ts) → LexesTo (in_line ind) (123 ∷ 123 ∷ 32 ∷ more) (mark InterpolationStart (123 ∷ 123 ∷ []) ∷ ts)
+pub interpolation_start : (ind more : List ℕ) (ts : List Sign) → ((t : Tok) → LexesTo (amid [] (ind ∷ []) true (Some t) false) (32 ∷ more) ts) → LexesTo (in_line ind) (123 ∷ 123 ∷ 32 ∷ more) (sign InterpolationStart (123 ∷ 123 ∷ []) ∷ ts)
 unfolding next token_within_line body_token pieces_len
 interpolation_start ind more ts k = step (in_line ind) InterpolationStart (123 ∷ 123 ∷ []) (32 ∷ more) ts refl (λ e. cc) (λ o n c. k _)
 
-pub interpolation_end : (ind more : List ℕ) (t : Tok) (ts : List Mark) → LexesTo (in_line ind) more ts → LexesTo (amid [] (ind ∷ []) true (Some t) false) (125 ∷ 125 ∷ more) (mark InterpolationEnd (125 ∷ 125 ∷ []) ∷ ts)
+pub interpolation_end : (ind more : List ℕ) (t : Tok) (ts : List Sign) → LexesTo (in_line ind) more ts → LexesTo (amid [] (ind ∷ []) true (Some t) false) (125 ∷ 125 ∷ more) (sign InterpolationEnd (125 ∷ 125 ∷ []) ∷ ts)
 unfolding next token_within_line
 interpolation_end ind more t ts k = step (amid [] (ind ∷ []) true (Some t) false) InterpolationEnd (125 ∷ 125 ∷ []) more ts refl (λ e. cc) (λ o n c. k)
 
 -- ---- where a line of a body begins
 
 -- an empty line: levels stay open where the run of white bytes after it does not close them
-pub empty_step : (ind more : List ℕ) (ts : List Mark) → closes_levels true more ≡ false → LexesTo (at_line ind) more ts → LexesTo (at_line ind) (10 ∷ more) (mark Eol (10 ∷ []) ∷ ts)
+pub empty_step : (ind more : List ℕ) (ts : List Sign) → closes_levels true more ≡ false → LexesTo (at_line ind) more ts → LexesTo (at_line ind) (10 ∷ more) (sign Eol (10 ∷ []) ∷ ts)
 unfolding next layout token_within_line body_token class_of closes_levels pieces_len
 empty_step ind more ts h k = step (at_line ind) Eol (10 ∷ []) more ts (rw h refl) (λ e. cc) (λ o n c. k)
 
@@ -121,7 +121,7 @@ unfolding layout
 indent_chosen x xs line rest equal seen = rw seen (rw equal refl)
 
 -- the first line, which begins with no blank after the indentation
-pub indent_step : (ind line : List ℕ) (ts : List Mark) → IsLevel ind → head_is blank line ≡ false → begins_blank_line line ≡ false → LexesTo (in_line ind) line ts → LexesTo (at_item true) (ind ++ line) (mark Indent ind ∷ ts)
+pub indent_step : (ind line : List ℕ) (ts : List Sign) → IsLevel ind → head_is blank line ≡ false → begins_blank_line line ≡ false → LexesTo (in_line ind) line ts → LexesTo (at_item true) (ind ++ line) (sign Indent ind ∷ ts)
 unfolding next
 indent_step [] line ts i none seen k = let e = i.some in cc
 indent_step (x ∷ xs) line ts i none seen k =
@@ -167,7 +167,7 @@ no_feed (x ∷ xs) each zero = (blank_byte x each.0).1
 no_feed (x ∷ xs) each (suc n) = no_feed xs each.1 n
 
 -- a later line that is not empty, and that may go on with more blanks
-pub level_step : (ind line : List ℕ) (ts : List Mark) → IsLevel ind → begins_blank_line (drop (blank_len line) line) ≡ false → LexesTo (in_line ind) line ts → LexesTo (at_line ind) (ind ++ line) (mark Whitespace ind ∷ ts)
+pub level_step : (ind line : List ℕ) (ts : List Sign) → IsLevel ind → begins_blank_line (drop (blank_len line) line) ≡ false → LexesTo (in_line ind) line ts → LexesTo (at_line ind) (ind ++ line) (sign Whitespace ind ∷ ts)
 unfolding next
 level_step [] line ts i seen k = let e = i.some in cc
 level_step (x ∷ xs) line ts i seen k =
@@ -258,5 +258,5 @@ dedent_found (y ∷ ys) (x ∷ xs) i h =
     laid_after (at_line (y ∷ ys)) [] (x ∷ xs) tt (not-true (blank (class_of x)) parts.1)
     ∙ dedent_chosen y ys (x ∷ xs) (begins_blank_line (x ∷ xs)) refl (λ seen. closes_alike x xs (end_white x xs seen) parts.0)
 
-pub dedent_step : (ind more : List ℕ) (ts : List Mark) → IsLevel ind → ends_body more ≡ true → LexesTo (at_item false) more ts → LexesTo (at_line ind) more (mark Dedent [] ∷ ts)
+pub dedent_step : (ind more : List ℕ) (ts : List Sign) → IsLevel ind → ends_body more ≡ true → LexesTo (at_item false) more ts → LexesTo (at_line ind) more (sign Dedent [] ∷ ts)
 dedent_step ind more ts i h k = step (at_line ind) Dedent [] more ts (dedent_found ind more i h) (λ e. cc) (λ o n c. k)

@@ -11,7 +11,7 @@ use Rattle.justfile_model.specs.Lexing.LiteralText.{raw_len}
 use Rattle.justfile_model.specs.Lexing.Tok.{Tok}
 use Rattle.justfile_model.specs.Lexing.Modes.{Mode, is_empty, mode_after}
 use Rattle.justfile_model.specs.Lexing.Next.{token_by_class, token_within_line, layout, at_line_start, begins_blank_line, next}
-use Rattle.justfile_round_trip.proofs.LiteralTexts.LexedModes.{Mark, mark, LexesTo, step, take_front, drop_front, placed}
+use Rattle.justfile_round_trip.proofs.LiteralTexts.LexedModes.{Sign, sign, LexesTo, step, take_front, drop_front, placed}
 use Rattle.justfile_round_trip.proofs.LiteralTexts.Inline.{Each, head_is, amid, amid_next, IsName, is_word, word_name, run_each}
 
 -- where an item begins
@@ -41,7 +41,7 @@ pub item_next : (c : Bool) (x : ℕ) (xs : List ℕ) → blank (class_of x) ≡ 
 unfolding next layout token_within_line
 item_next c x xs h = laid_after (at_item c) [] (x ∷ xs) tt h ∙ same_both (begins_blank_line (x ∷ xs)) (token_by_class (at_item c) (class_of x) (x ∷ xs))
 
-pub item_name : (c : Bool) (n : List ℕ) {more : List ℕ} {ts : List Mark} → IsName n → head_is in_word more ≡ false → LexesTo (amid [] [] c None (bytes_eq n (102 ∷ []))) more ts → LexesTo (at_item c) (n ++ more) (mark Identifier n ∷ ts)
+pub item_name : (c : Bool) (n : List ℕ) {more : List ℕ} {ts : List Sign} → IsName n → head_is in_word more ≡ false → LexesTo (amid [] [] c None (bytes_eq n (102 ∷ []))) more ts → LexesTo (at_item c) (n ++ more) (sign Identifier n ∷ ts)
 unfolding token_by_class
 item_name c [] h stop k = absurd h
 item_name c (x ∷ xs) {more} {ts} h stop k =
@@ -52,15 +52,15 @@ item_name c (x ∷ xs) {more} {ts} h stop k =
     ∙ ap (λ n. Ok (Identifier, n)) (run_each in_word (x ∷ xs) more word stop))
     (λ e. cc) (λ o n col. k)
 
-pub item_word : (c : Bool) (w : List ℕ) {more : List ℕ} {ts : List Mark} → is_word w ≡ true → head_is in_word more ≡ false
-    → LexesTo (amid [] [] c None (bytes_eq w (102 ∷ []))) more ts → LexesTo (at_item c) (w ++ more) (mark Identifier w ∷ ts)
+pub item_word : (c : Bool) (w : List ℕ) {more : List ℕ} {ts : List Sign} → is_word w ≡ true → head_is in_word more ≡ false
+    → LexesTo (amid [] [] c None (bytes_eq w (102 ∷ []))) more ts → LexesTo (at_item c) (w ++ more) (sign Identifier w ∷ ts)
 item_word c w h stop k = item_name c w (word_name w h) stop k
 
-pub blank_line : (c : Bool) {more : List ℕ} {ts : List Mark} → LexesTo (at_item c) more ts → LexesTo (at_item c) (10 ∷ more) (mark Eol (10 ∷ []) ∷ ts)
+pub blank_line : (c : Bool) {more : List ℕ} {ts : List Sign} → LexesTo (at_item c) more ts → LexesTo (at_item c) (10 ∷ more) (sign Eol (10 ∷ []) ∷ ts)
 unfolding next layout token_within_line token_by_class class_of
 blank_line c {more} {ts} k = step (at_item c) Eol (10 ∷ []) more ts refl (λ e. cc) (λ o n col. k)
 
-pub line_end : (c f : Bool) {more : List ℕ} {ts : List Mark} → LexesTo (at_item c) more ts → LexesTo (amid [] [] c None f) (10 ∷ more) (mark Eol (10 ∷ []) ∷ ts)
+pub line_end : (c f : Bool) {more : List ℕ} {ts : List Sign} → LexesTo (at_item c) more ts → LexesTo (amid [] [] c None f) (10 ∷ more) (sign Eol (10 ∷ []) ∷ ts)
 unfolding next token_within_line token_by_class class_of
 line_end c f {more} {ts} k = step (amid [] [] c None f) Eol (10 ∷ []) more ts refl (λ e. cc) (λ o n col. k)
 
@@ -90,17 +90,17 @@ pub no_hash : ◌≡◌ {A = ℕ} 0 35 → ⊥
 no_hash e = omega (arith, e)
 
 -- where the class of its first byte decides
-comment_from : (m : Mode) (t : List ℕ) {more : List ℕ} {ts : List Mark} → IsComment t → ((x : ℕ) (xs : List ℕ) → x ≡ 35 → next m (x ∷ xs) ≡ token_by_class m (class_of x) (x ∷ xs))
-    → ((o n c : ℕ) → LexesTo (mode_after Comment (placed (mark Comment t) o n c) m) (10 ∷ more) ts) → LexesTo m (t ++ (10 ∷ more)) (mark Comment t ∷ ts)
+comment_from : (m : Mode) (t : List ℕ) {more : List ℕ} {ts : List Sign} → IsComment t → ((x : ℕ) (xs : List ℕ) → x ≡ 35 → next m (x ∷ xs) ≡ token_by_class m (class_of x) (x ∷ xs))
+    → ((o n c : ℕ) → LexesTo (mode_after Comment (placed (sign Comment t) o n c) m) (10 ∷ more) ts) → LexesTo m (t ++ (10 ∷ more)) (sign Comment t ∷ ts)
 comment_from m [] h found k = absurd (no_hash h.first)
 comment_from m (x ∷ xs) {more} {ts} h found k =
     step m Comment (x ∷ xs) (10 ∷ more) ts
     (found x (xs ++ (10 ∷ more)) h.first ∙ hash_found m x (xs ++ (10 ∷ more)) h.first ∙ ap (λ n. Ok (Comment, n)) (h.ends more))
     (λ e. cc) k
 
-pub comment_step : (os : List OpenDelimiter) (ls : List (List ℕ)) (c : Bool) (i : Option Tok) (f : Bool) (t : List ℕ) {more : List ℕ} {ts : List Mark} → IsComment t → LexesTo (amid os ls c i false) (10 ∷ more) ts
-    → LexesTo (amid os ls c i f) (t ++ (10 ∷ more)) (mark Comment t ∷ ts)
+pub comment_step : (os : List OpenDelimiter) (ls : List (List ℕ)) (c : Bool) (i : Option Tok) (f : Bool) (t : List ℕ) {more : List ℕ} {ts : List Sign} → IsComment t → LexesTo (amid os ls c i false) (10 ∷ more) ts
+    → LexesTo (amid os ls c i f) (t ++ (10 ∷ more)) (sign Comment t ∷ ts)
 comment_step os ls c i f t h k = comment_from (amid os ls c i f) t h (λ x xs e. amid_next os ls c i f x xs (hash_no_brace (is_empty os) x xs e)) (λ o n col. k)
 
-pub item_comment : (c : Bool) (t : List ℕ) {more : List ℕ} {ts : List Mark} → IsComment t → LexesTo (amid [] [] c None false) (10 ∷ more) ts → LexesTo (at_item c) (t ++ (10 ∷ more)) (mark Comment t ∷ ts)
+pub item_comment : (c : Bool) (t : List ℕ) {more : List ℕ} {ts : List Sign} → IsComment t → LexesTo (amid [] [] c None false) (10 ∷ more) ts → LexesTo (at_item c) (t ++ (10 ∷ more)) (sign Comment t ∷ ts)
 item_comment c t h k = comment_from (at_item c) t h (λ x xs e. item_next c x xs (hash_no_blank x e)) (λ o n col. k)

@@ -21,11 +21,11 @@ use Rattle.justfile_model.specs.Printed.Printing.{is_conditional}
 use Rattle.justfile_model.specs.Lexing.Tok.{Tok}
 use Rattle.justfile_model.specs.Trees.Tree as tree
 use Rattle.justfile_model.specs.Trees.Tree.{Or, And, Comparison, Concatenation, ListConcatenation, Join, Root, If, IfElse, Not, StringLiteral, FormatLiteral, FormatString, Backtick, Assert, AssertMessage, Variable, Call, Group, ListOf, Last, Continue}
-use Rattle.justfile_round_trip.proofs.LiteralTexts.LexedModes.{Mark, mark, LexesTo}
+use Rattle.justfile_round_trip.proofs.LiteralTexts.LexedModes.{Sign, sign, LexesTo}
 use Rattle.justfile_round_trip.proofs.LiteralTexts.Inline.{head_is, joins, head_word, amid, IsName, IsLiteral, name_step, word_step, space_step, literal_step, whole_step, start_step, continue_step, end_step}
 use Rattle.justfile_round_trip.proofs.Fixed as fixed
 use Rattle.justfile_round_trip.proofs.Fixed.{bang_step, close_step, open_step, plus_step, token_step}
-use Rattle.justfile_round_trip.proofs.Canon.{Value, Values, ShapeParts, operator_codes, expr_on, exprs_on, others_on, parts_on, expr_marks, exprs_marks, others_marks, parts_marks}
+use Rattle.justfile_round_trip.proofs.Canon.{Value, Values, ShapeParts, operator_codes, expr_on, exprs_on, others_on, parts_on, expr_signs, exprs_signs, others_signs, parts_signs}
 use Rattle.justfile_round_trip.proofs.Good.{IsDelimited, IsFormatLiteral, IsFormatStart, IsPartOf, GoodValue, GoodValues, GoodParts}
 
 -- ---- how a value begins
@@ -121,21 +121,21 @@ string_no_backtick delimiters.Backtick e = cc
 string_no_backtick delimiters.QuoteDouble e = refl
 string_no_backtick delimiters.QuoteSingle e = refl
 
-either : {m : Mode} (b : Bool) {x y : List ℕ} {ts us : List Mark} → LexesTo m x ts → LexesTo m y us → LexesTo m (cond b x y) (cond b ts us)
+either : {m : Mode} (b : Bool) {x y : List ℕ} {ts us : List Sign} → LexesTo m x ts → LexesTo m y us → LexesTo m (cond b x y) (cond b ts us)
 either true r q = r
 either false r q = q
 
 module _ (ls : List (List ℕ)) (c : Bool) (i : Option Tok) where
-  delimited_step : (os : List OpenDelimiter) (q : TokenKind) (l more : List ℕ) (ts : List Mark) (h : IsDelimited q l) → head_is joins more ≡ false → LexesTo (amid os ls c i false) more ts → LexesTo (amid os ls c i false) (l ++ more) (mark q l ∷ ts)
-  delimited_step os q l more ts h stop k = subst (λ q. LexesTo (amid os ls c i false) (l ++ more) (mark q l ∷ ts)) h.is_token (literal_step h.kind l more h.literal stop k)
+  delimited_step : (os : List OpenDelimiter) (q : TokenKind) (l more : List ℕ) (ts : List Sign) (h : IsDelimited q l) → head_is joins more ≡ false → LexesTo (amid os ls c i false) more ts → LexesTo (amid os ls c i false) (l ++ more) (sign q l ∷ ts)
+  delimited_step os q l more ts h stop k = subst (λ q. LexesTo (amid os ls c i false) (l ++ more) (sign q l ∷ ts)) h.is_token (literal_step h.kind l more h.literal stop k)
 
-  format_step : (os : List OpenDelimiter) (l more : List ℕ) (ts : List Mark) (h : IsFormatLiteral l) → head_is joins more ≡ false → LexesTo (amid os ls c i false) more ts → LexesTo (amid os ls c i true) (l ++ more) (mark kinds.StringToken l ∷ ts)
+  format_step : (os : List OpenDelimiter) (l more : List ℕ) (ts : List Sign) (h : IsFormatLiteral l) → head_is joins more ≡ false → LexesTo (amid os ls c i false) more ts → LexesTo (amid os ls c i true) (l ++ more) (sign kinds.StringToken l ∷ ts)
   format_step os l more ts h stop k =
-      subst (λ q. LexesTo (amid os ls c i true) (l ++ more) (mark q l ∷ ts)) h.string.is_token
+      subst (λ q. LexesTo (amid os ls c i true) (l ++ more) (sign q l ∷ ts)) h.string.is_token
       (whole_step h.string.kind l more h.string.literal h.ends (string_no_backtick h.string.kind.delimiter h.string.is_token) stop k)
 
   -- an operator of a comparison, and the space after it
-  compared_step : (os : List OpenDelimiter) (by : ConditionalOperator) {more : List ℕ} {ts : List Mark} → LexesTo (amid os ls c i false) (32 ∷ more) ts → LexesTo (amid os ls c i false) (operator_codes by ++ (32 ∷ more)) (mark (operator_kind by) (operator_codes by) ∷ ts)
+  compared_step : (os : List OpenDelimiter) (by : ConditionalOperator) {more : List ℕ} {ts : List Sign} → LexesTo (amid os ls c i false) (32 ∷ more) ts → LexesTo (amid os ls c i false) (operator_codes by ++ (32 ∷ more)) (sign (operator_kind by) (operator_codes by) ∷ ts)
   compared_step os Equality k = token_step fixed.equals_equals k
   compared_step os Inequality k = token_step fixed.bang_equals k
   compared_step os RegexMatch k = token_step fixed.equals_tilde k
@@ -150,7 +150,7 @@ module _ (ls : List (List ℕ)) (c : Bool) (i : Option Tok) where
     unfolding class_of
 
     -- after a value the mode is known but for whether an `f` came last
-    pub lex_value : (os : List OpenDelimiter) (e : Value) {more : List ℕ} {ts : List Mark} → GoodValue e → head_is joins more ≡ false → ((f : Bool) → LexesTo (amid os ls c i f) more ts) → LexesTo (amid os ls c i false) (expr_on e more) (expr_marks e ts)
+    pub lex_value : (os : List OpenDelimiter) (e : Value) {more : List ℕ} {ts : List Sign} → GoodValue e → head_is joins more ≡ false → ((f : Bool) → LexesTo (amid os ls c i f) more ts) → LexesTo (amid os ls c i false) (expr_on e more) (expr_signs e ts)
     lex_value os (Or l r) h stop k = lex_value os l h.0 refl (λ f. space_step refl (token_step fixed.or (space_step (value_no_blank r _ h.1) (lex_value os r h.1 stop k))))
     lex_value os (And l r) h stop k = lex_value os l h.0 refl (λ f. space_step refl (token_step fixed.and (space_step (value_no_blank r _ h.1) (lex_value os r h.1 stop k))))
     lex_value os (Comparison l by token r) h stop k = lex_value os l h.0 refl (λ f. space_step (operator_no_blank by _) (compared_step os by (space_step (value_no_blank r _ h.1) (lex_value os r h.1 stop k))))
@@ -184,15 +184,15 @@ module _ (ls : List (List ℕ)) (c : Bool) (i : Option Tok) where
     lex_value os (Group e) h stop k = open_step fixed.paren (λ line. lex_value (opener Paren line ∷ os) e h refl (λ f. close_step fixed.end_paren (k false)))
     lex_value os (ListOf operator es) h stop k = open_step fixed.bracket (λ line. lex_values (opener Bracket line ∷ os) es h refl (λ f. close_step fixed.end_bracket (k false)))
 
-    pub lex_values : (os : List OpenDelimiter) (es : Values) {more : List ℕ} {ts : List Mark} → GoodValues es → head_is joins more ≡ false → ((f : Bool) → LexesTo (amid os ls c i f) more ts) → LexesTo (amid os ls c i false) (exprs_on es more) (exprs_marks es ts)
+    pub lex_values : (os : List OpenDelimiter) (es : Values) {more : List ℕ} {ts : List Sign} → GoodValues es → head_is joins more ≡ false → ((f : Bool) → LexesTo (amid os ls c i f) more ts) → LexesTo (amid os ls c i false) (exprs_on es more) (exprs_signs es ts)
     lex_values os tree.none h stop k = k false
     lex_values os (tree.more e es) {more} h stop k = lex_value os e h.0 (others_join es more stop) (lex_others os es h.1 stop k)
 
-    lex_others : (os : List OpenDelimiter) (es : Values) {more : List ℕ} {ts : List Mark} → GoodValues es → head_is joins more ≡ false → ((f : Bool) → LexesTo (amid os ls c i f) more ts) → (f : Bool) → LexesTo (amid os ls c i f) (others_on es more) (others_marks es ts)
+    lex_others : (os : List OpenDelimiter) (es : Values) {more : List ℕ} {ts : List Sign} → GoodValues es → head_is joins more ≡ false → ((f : Bool) → LexesTo (amid os ls c i f) more ts) → (f : Bool) → LexesTo (amid os ls c i f) (others_on es more) (others_signs es ts)
     lex_others os tree.none h stop k f = k f
     lex_others os (tree.more e es) {more} h stop k f = token_step fixed.comma (space_step (value_no_blank e _ h.0) (lex_value os e h.0 (others_join es more stop) (lex_others os es h.1 stop k)))
 
-    lex_parts : (os : List OpenDelimiter) (k : StringKind) (line : ℕ) (ps : ShapeParts) {more : List ℕ} {ts : List Mark} → GoodParts k ps → LexesTo (amid os ls c i false) more ts → LexesTo (amid (opener (FormatString k) line ∷ os) ls c i false) (parts_on ps more) (parts_marks ps ts)
+    lex_parts : (os : List OpenDelimiter) (k : StringKind) (line : ℕ) (ps : ShapeParts) {more : List ℕ} {ts : List Sign} → GoodParts k ps → LexesTo (amid os ls c i false) more ts → LexesTo (amid (opener (FormatString k) line ∷ os) ls c i false) (parts_on ps more) (parts_signs ps ts)
     lex_parts os k line (Last l) {more} h r = end_step k line l more h r
     lex_parts os k line (Continue l e ps) {more} h r =
         continue_step k line l _ h.0 (space_step (value_no_blank e _ h.1)

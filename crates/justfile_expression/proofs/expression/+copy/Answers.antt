@@ -28,21 +28,21 @@ copy_parts-loop-expression-preserved t c =
     (omega arith) c.loop-expression-item.is c.loop-expression.invariant c.in_ok-part.ensures c.in_ok-push.ensures.items
 
 pub copy_boxed-loop-next-init : goal.copy_boxed-loop-next-init
-copy_boxed-loop-next-init t c = record { right = None; in_row = c.in_ok-row.ensures.in_row; smaller = c.in_ok-row.ensures.smaller; same = tt }
+copy_boxed-loop-next-init t c = record { right = None; in_chain = c.in_ok-chain.ensures.in_chain; smaller = c.in_ok-chain.ensures.smaller; same = tt }
 
 pub copy_boxed-box_copy-requires : goal.copy_boxed-box_copy-requires
 copy_boxed-box_copy-requires t c =
-    let last = popped c.loop-next.row.items c.pop.new.self.items c.in-Some.next c.args.expression.now c.loop-next.invariant.right c.in-Some.ensures.items c.loop-next.invariant.in_row in
-    let below = popped_deep c.loop-next.row.items c.pop.new.self.items c.in-Some.next c.args.expression.now c.in-Some.ensures.items c.loop-next.invariant.smaller in
+    let last = popped c.loop-next.chain.items c.pop.new.self.items c.in-Some.next c.args.expression.now c.loop-next.invariant.right c.in-Some.ensures.items c.loop-next.invariant.in_chain in
+    let below = popped_deep c.loop-next.chain.items c.pop.new.self.items c.in-Some.next c.args.expression.now c.in-Some.ensures.items c.loop-next.invariant.smaller in
     (omega (arith, below.1, c.decreases), copied c.loop-next.copied c.loop-next.invariant.right (right_side c.in-Some.next.now) last.0 c.loop-next.invariant.same)
 
 pub copy_boxed-loop-next-preserved : goal.copy_boxed-loop-next-preserved
 copy_boxed-loop-next-preserved t c =
-    let last = popped c.loop-next.row.items c.pop.new.self.items c.in-Some.next c.args.expression.now c.loop-next.invariant.right c.in-Some.ensures.items c.loop-next.invariant.in_row in
-    let below = popped_deep c.loop-next.row.items c.pop.new.self.items c.in-Some.next c.args.expression.now c.in-Some.ensures.items c.loop-next.invariant.smaller in
-    record { right = Some c.in-Some.next.now; in_row = last.1; smaller = below.0; same = c.in_ok-box_copy.ensures }
+    let last = popped c.loop-next.chain.items c.pop.new.self.items c.in-Some.next c.args.expression.now c.loop-next.invariant.right c.in-Some.ensures.items c.loop-next.invariant.in_chain in
+    let below = popped_deep c.loop-next.chain.items c.pop.new.self.items c.in-Some.next c.args.expression.now c.in-Some.ensures.items c.loop-next.invariant.smaller in
+    record { right = Some c.in-Some.next.now; in_chain = last.1; smaller = below.0; same = c.in_ok-box_copy.ensures }
 
 pub copy_boxed-box_copy-requires-2 : goal.copy_boxed-box_copy-requires-2
 copy_boxed-box_copy-requires-2 t c =
-    let last = emptied c.loop-next.row.items c.args.expression.now c.loop-next.invariant.right (sym c.loop-next.row.ok.0 ∙ c.in_default.ensures.cases.0) c.loop-next.invariant.in_row in
+    let last = emptied c.loop-next.chain.items c.args.expression.now c.loop-next.invariant.right (sym c.loop-next.chain.ok.0 ∙ c.in_default.ensures.cases.0) c.loop-next.invariant.in_chain in
     (omega (arith, c.decreases), copied c.loop-next.copied c.loop-next.invariant.right (right_side c.args.expression.now) last c.loop-next.invariant.same)

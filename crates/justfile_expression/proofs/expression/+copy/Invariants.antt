@@ -1,7 +1,7 @@
 use Rattle.std.proofs.Common.{take, max, ◌+◌, ◌*◌, length, reverse, Option}
 use Rattle.std.specs.List.{All, AllZip}
 use Rattle.justfile_expression.specs.Copies.{IsSameExpression, IsSamePart}
-use Rattle.justfile_expression.specs.RightSides.{IsLessDeep, IsRow, IsCopied}
+use Rattle.justfile_expression.specs.RightSides.{IsLessDeep, IsChain, IsCopied}
 use Rattle.justfile_expression.specs.declared.expression.Expression.{Expression, size-Expression}
 use Rattle.justfile_expression.proofs.expression.+copy.Given as goal
 
@@ -36,17 +36,17 @@ decreases-copy_parts l = 8 * goal.size-copy_parts l + 3
 abbrev pub decreases-copy_part : goal.decreases-copy_part
 decreases-copy_part l = 8 * goal.size-copy_part l + 2
 
--- `copied` is a copy of the right side of the last expression that is left in the row
+-- `copied` is a copy of the right side of the last expression that is left in the chain
 abbrev pub invariant-copy_boxed-loop-next : goal.invariant-copy_boxed-loop-next
 invariant-copy_boxed-loop-next l = record {
   right : Option Expression;
-  in_row : IsRow (reverse l.row.items) l.expression right;
-  smaller : All (IsLessDeep l.expression) l.row.items;
+  in_chain : IsChain (reverse l.chain.items) l.expression right;
+  smaller : All (IsLessDeep l.expression) l.chain.items;
   same : IsCopied l.copied right;
 }
 
 abbrev pub decreases-copy_boxed-loop-next : goal.decreases-copy_boxed-loop-next
-decreases-copy_boxed-loop-next l = length l.row.items
+decreases-copy_boxed-loop-next l = length l.chain.items
 
 abbrev pub invariant-copy_all-loop-expression : goal.invariant-copy_all-loop-expression
 invariant-copy_all-loop-expression l = AllZip IsSameExpression l.copies.items (take l.expression-index l.expression-items)

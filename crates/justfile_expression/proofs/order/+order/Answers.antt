@@ -7,7 +7,7 @@ use Rattle.justfile_expression.specs.Order.{key, part_key}
 use Rattle.justfile_expression.specs.OrderSteps.{left_key}
 use Rattle.justfile_expression.proofs.Compared.{at_end, from_assert, from_call, from_conditional, from_format, from_list, both_asserts, both_calls, both_conditionals, both_formats, both_lists}
 use Rattle.justfile_expression.proofs.OrderSteps.{decided, first_ended, next_two, no_difference, second_ended, stepped}
-use Rattle.justfile_expression.proofs.RightSides.{falls, next_shallow, row_left}
+use Rattle.justfile_expression.proofs.RightSides.{falls, next_shallow, chain_left}
 use Rattle.justfile_expression.proofs.order.+order.Goals as goal
 
 pub compare_left-returns-in-Call : goal.compare_left-returns-in-Call
@@ -77,7 +77,7 @@ pub compare-compare_left-order-requires : goal.compare-compare_left-order-requir
 compare-compare_left-order-requires t c = omega (arith, next_shallow c.loop-rest.rest c.in-Some.next _ c.in-Some.is c.loop-rest.invariant.shallow, c.decreases)
 
 pub compare-loop-rest-smaller : goal.compare-loop-rest-smaller
-compare-loop-rest-smaller t c = omega (arith, falls c.in-Some.next.now c.right_side-rest.result c.right_side-rest.ensures.smaller, ap row_left c.in-Some.is)
+compare-loop-rest-smaller t c = omega (arith, falls c.in-Some.next.now c.right_side-rest.result c.right_side-rest.ensures.smaller, ap chain_left c.in-Some.is)
 
 pub compare-loop-rest-preserved : goal.compare-loop-rest-preserved
 compare-loop-rest-preserved t c = record {

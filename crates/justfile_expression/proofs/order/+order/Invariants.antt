@@ -7,7 +7,7 @@ use Rattle.justfile_expression.specs.Order.{key, part_key}
 use Rattle.justfile_expression.specs.declared.expression.Expression.{size-Expression}
 use Rattle.justfile_expression.specs.declared.expression.Expression.TheShapes.{weighed-Expression-Assert-1}
 use Rattle.justfile_expression.proofs.OrderSteps.{by_rest}
-use Rattle.justfile_expression.proofs.RightSides.{row_left}
+use Rattle.justfile_expression.proofs.RightSides.{chain_left}
 use Rattle.justfile_expression.proofs.order.+order.Given as goal
 
 abbrev pub decreases-compare : goal.decreases-compare
@@ -64,12 +64,12 @@ decreases-compare_or l = 6 * size-Expression l.lhs.now + 3
 -- what is left of the two expressions, followed by what comes after it, is left to compare
 abbrev pub invariant-compare-loop-rest : goal.invariant-compare-loop-rest
 invariant-compare-loop-rest l = record {
-  shallow : row_left l.rest ≤ size-Expression l.expression + 1;
+  shallow : chain_left l.rest ≤ size-Expression l.expression + 1;
   same : ordering_then (by_rest (leaf_order l.leaves) l.rest l.other_rest) l.after ≡ key_cmp (leaf_order l.leaves) (key l.expression) (key l.other);
 }
 
 abbrev pub decreases-compare-loop-rest : goal.decreases-compare-loop-rest
-decreases-compare-loop-rest l = row_left l.rest
+decreases-compare-loop-rest l = chain_left l.rest
 
 abbrev pub invariant-compare_all-loop-i : goal.invariant-compare_all-loop-i
 invariant-compare_all-loop-i l = (l.i ≤ length l.others.items) × (slice_cmp (on key (key_cmp (leaf_order l.leaves))) (drop l.i l.expression-items) (drop l.i l.others.items) ≡ slice_cmp (on key (key_cmp (leaf_order l.leaves))) l.expression-items l.others.items)

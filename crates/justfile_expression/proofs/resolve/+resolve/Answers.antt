@@ -61,8 +61,8 @@ resolve_parts-returns t c =
     all_related (IsResolvedPart (numbers_of c.args.numbers.now)) _ c.loop-part.part-index c.loop-part.part-items c.deref_mut-part-items.result.now c.args.parts.now.items _
     c.deref_mut-part-items.ensures.value c.loop-part.invariant.0.0 c.deref_mut-part-items.ensures.len c.loop-part-test.false c.loop-part.invariant.1
 
-pub resolve_row-loop-expression-preserved : goal.resolve_row-loop-expression-preserved
-resolve_row-loop-expression-preserved t c =
+pub resolve_chain-loop-expression-preserved : goal.resolve_chain-loop-expression-preserved
+resolve_chain-loop-expression-preserved t c =
     let numbers = numbers_of c.args.numbers.now in
     let present = sym c.has_right.ensures.has_right ∙ c.loop-expression-test.true in
     let same = same_right numbers c.resolve_left.new.expression c.loop-expression.expression c.resolve_left.ensures in
@@ -83,8 +83,8 @@ resolve_row-loop-expression-preserved t c =
           present c.resolve_left.ensures c.exchange_right.ensures c.loop-expression.invariant.whole));
     }
 
-pub resolve_row-returns : goal.resolve_row-returns
-resolve_row-returns t c =
+pub resolve_chain-returns : goal.resolve_chain-returns
+resolve_chain-returns t c =
     c.loop-expression.invariant.whole c.resolve_left-2.new.expression
     (resolved_alone (numbers_of c.args.numbers.now) c.resolve_left-2.new.expression c.loop-expression.expression c.resolve_left-2.ensures
     (sym c.has_right.ensures.has_right ∙ c.loop-expression-test.false))

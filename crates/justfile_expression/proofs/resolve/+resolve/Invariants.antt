@@ -8,8 +8,8 @@ use Rattle.justfile_expression.proofs.resolve.+resolve.Given as goal
 abbrev pub decreases-resolve : goal.decreases-resolve
 decreases-resolve l = 5 * size-Expression l.expression.now + 3
 
-abbrev pub decreases-resolve_row : goal.decreases-resolve_row
-decreases-resolve_row l = 5 * size-Expression l.expression.now + 2
+abbrev pub decreases-resolve_chain : goal.decreases-resolve_chain
+decreases-resolve_chain l = 5 * size-Expression l.expression.now + 2
 
 abbrev pub decreases-resolve_left : goal.decreases-resolve_left
 decreases-resolve_left l = 5 * size-Expression l.expression.now
@@ -24,14 +24,14 @@ abbrev pub decreases-resolve_parts : goal.decreases-resolve_parts
 decreases-resolve_parts l = 5 * goal.size-resolve_parts l + 4
 
 -- within its parents, the expression that is left is the whole
-abbrev pub invariant-resolve_row-loop-expression : goal.invariant-resolve_row-loop-expression
-invariant-resolve_row-loop-expression l = record {
+abbrev pub invariant-resolve_chain-loop-expression : goal.invariant-resolve_chain-loop-expression
+invariant-resolve_chain-loop-expression l = record {
   shallow : size-Expression l.expression ≤ size-Expression l.initial.expression;
   whole : IsWithin (numbers_of l.numbers) l.parents l.expression l.initial.expression;
 }
 
-abbrev pub decreases-resolve_row-loop-expression : goal.decreases-resolve_row-loop-expression
-decreases-resolve_row-loop-expression l = size-Expression l.expression
+abbrev pub decreases-resolve_chain-loop-expression : goal.decreases-resolve_chain-loop-expression
+decreases-resolve_chain-loop-expression l = size-Expression l.expression
 
 abbrev pub invariant-resolve_all-loop-expression : goal.invariant-resolve_all-loop-expression
 invariant-resolve_all-loop-expression l =

@@ -5,8 +5,8 @@ use Rattle.justfile_model.specs.Lexing.Tok.{Tok, tok_of}
 use Rattle.justfile_model.proofs.Lexing.LexedLaws.{one_list}
 use Rattle.justfile_parse_expression.specs.Conditions.{conditions_of}
 use Rattle.justfile_parse_expression.specs.FormatStrings.{IsTable}
-use Rattle.justfile_parse_expression.specs.Significant.{TableEntry, significant_of}
-use Rattle.justfile_lex.proofs.TableLemmas.{entries_among}
+use Rattle.justfile_parse_expression.specs.Significant.{TableToken, significant_of}
+use Rattle.justfile_lex.proofs.TableLemmas.{table_tokens_among}
 use Rattle.justfile_parse_item.specs.MethodResults.{CountersMoved}
 use Rattle.justfile_parse_file.proofs.FormatStrings.{ended_lex}
 use Rattle.justfile_parse_file.proofs.Parsed.{lexical, lexed_once, module_path_of, no_tree, nonempty, parsed_if, sound_lex, text_parsed, unparsed_of, working_directory_of}
@@ -23,27 +23,27 @@ parse_significant-requires g c =
 pub returns-clause-no_tree : goal.returns-clause-no_tree
 returns-clause-no_tree g c =
     let t = c.in_ok-table.ensures.table in
-    let Q : List TableEntry → Type 0 = λ entries. All (λ entry. Contains t.tokens entry.0) entries in
+    let Q : List TableToken → Type 0 = λ table_tokens. All (λ table_token. Contains t.tokens table_token.0) table_tokens in
     let conditions = conditions_of g.X.Expander.answer c.args.expander.now c.args.current c.args.limit in
     let old = c.args.numerator.now in
     let new = c.parse_significant.new.numerator in
     IfErr-weaker c.parse_significant.result _ _
     (λ fault h. no_tree conditions c.args.path.now c.args.src.now c.utf8.src t.tokens t.lexed t.sources old new fault
     (unparsed_of conditions t.tokens c.as_slice.result.now old new (ap (map significant_of) c.as_slice.ensures.value ∙ t.significant.marked)
-    (subst Q (sym c.as_slice.ensures.value) (entries_among t.tokens c.in_ok-table.table.items t.significant)) fault h))
+    (subst Q (sym c.as_slice.ensures.value) (table_tokens_among t.tokens c.in_ok-table.table.items t.significant)) fault h))
     c.parse_significant.ensures.unread
 
 pub returns-clause-parsed : goal.returns-clause-parsed
 returns-clause-parsed g c =
     let t = c.in_ok-table.ensures.table in
-    let Q : List TableEntry → Type 0 = λ entries. All (λ entry. Contains t.tokens entry.0) entries in
+    let Q : List TableToken → Type 0 = λ table_tokens. All (λ table_token. Contains t.tokens table_token.0) table_tokens in
     let conditions = conditions_of g.X.Expander.answer c.args.expander.now c.args.current c.args.limit in
     let old = c.args.numerator.now in
     let new = c.parse_significant.new.numerator in
     IfOk-weaker c.parse_significant.result _ _
     (text_parsed conditions c.args.path.now c.args.src.now c.utf8.src t.tokens t.lexed t.sources old new c.args.source.now.file_depth c.args.source.now.import_offsets.now)
     (parsed_if conditions t.tokens c.as_slice.result.now old new (ap (map significant_of) c.as_slice.ensures.value ∙ t.significant.marked)
-    (subst Q (sym c.as_slice.ensures.value) (entries_among t.tokens c.in_ok-table.table.items t.significant))
+    (subst Q (sym c.as_slice.ensures.value) (table_tokens_among t.tokens c.in_ok-table.table.items t.significant))
     c.args.source.now c.parse_significant.result c.parse_significant.ensures.file)
 
 pub returns-clause-moved : goal.returns-clause-moved

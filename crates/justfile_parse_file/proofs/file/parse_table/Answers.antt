@@ -8,7 +8,7 @@ use Rattle.justfile_parse_file.specs.ErrorFaults.{IsFaultOfError}
 use Rattle.justfile_parse_file.specs.MethodResults.{run_from}
 use Rattle.justfile_parse_item.specs.Tree.{item_tree}
 use Rattle.justfile_parse_expression.specs.View.{state_of}
-use Rattle.justfile_parse_expression.specs.Significant.{TableEntry}
+use Rattle.justfile_parse_expression.specs.Significant.{TableToken}
 use Rattle.justfile_parse_expression.proofs.Rest.{noted_is}
 use Rattle.justfile_parse_file.proofs.FileResults.{read_of, unread}
 use Rattle.justfile_parse_file.proofs.file.parse_table.Goals as goal
@@ -32,6 +32,6 @@ returns-clause-err g c =
     let m = counters_of c.parse_file.new.numerator in
     let run : Run = run_from (conditions_of A c.args.expander.now c.args.current c.args.limit) c.args.tokens.now c.args.source.now in
     let P : State → Type 0 = λ s. IsParseError c.in-Err.error (state_of A p) (reader.file n s ≡ Err (NoNumber m)) (reader.file n s) in
-    let Q : Option TableEntry → Type 0 = λ next. IsFaultOfError c.args.tokens.now next c.in-Err.error c.make_fault.result in
+    let Q : Option TableToken → Type 0 = λ next. IsFaultOfError c.args.tokens.now next c.in-Err.error c.make_fault.result in
     unread run c.args.numerator.now c.parse_file.new.numerator (state_of A p) c.in-Err.error c.make_fault.result
     (subst P c.new-parser.ensures c.in-Err.ensures.reads) (subst Q c.peek_front.ensures c.make_fault.ensures)

@@ -1,7 +1,7 @@
 use Rattle.std.proofs.Common.{◌≡◌, ◌∙◌, map, None, Some, Ok, subst, sym}
 use Rattle.justfile_vocabulary.specs.declared.token_kind.TokenKind.TheVariants as kinds
 use Rattle.justfile_model.specs.declared.parameter_kind.ParameterKind.TheVariants.{Plus, Star}
-use Rattle.justfile_parse_expression.specs.Significant.{TableEntry}
+use Rattle.justfile_parse_expression.specs.Significant.{TableToken}
 use Rattle.justfile_parse_expression.specs.TableReader.{State, accept}
 use Rattle.justfile_parse_expression.specs.View.{state_of}
 use Rattle.justfile_parse_expression.specs.declared.parser_state.ParserState.{ParserState}
@@ -18,7 +18,7 @@ returns-in-Some g c =
     let rules = rules_of c.args.arg_attributes.now.attributes.now in
     let x : reader.Parameters = (map parameter_tree c.args.parameters.now.list.items, counters_of c.args.numerator.now) in
     let s = state_of A c.args.parser.now in
-    let plus : TableEntry × State = (c.in-Some._plus.now, state_of A c.accept.new.self) in
+    let plus : TableToken × State = (c.in-Some._plus.now, state_of A c.accept.new.self) in
     after_token rules _ _ _ _ _ kinds.Plus s plus _ reader.last_parameter (λ rules. reader.variadic rules Plus) c.in-Some.ensures.takes
     (plus_next rules x s plus c.in-Some.ensures.takes) c.parse_variadic.ensures
 
@@ -28,7 +28,7 @@ returns-in-Some-accept g c =
     let rules = rules_of c.args.arg_attributes.now.attributes.now in
     let x : reader.Parameters = (map parameter_tree c.args.parameters.now.list.items, counters_of c.args.numerator.now) in
     let s = state_of A c.args.parser.now in
-    let star : TableEntry × State = (c.in-Some-accept._star.now, state_of A c.accept-2.new.self) in
+    let star : TableToken × State = (c.in-Some-accept._star.now, state_of A c.accept-2.new.self) in
     let P : ParserState _ → Type 0 = λ p. accept kinds.Asterisk (state_of A p) ≡ Some star in
     let found = subst P c.in_default.ensures.moves c.in-Some-accept.ensures.takes in
     after_token rules _ _ _ _ _ kinds.Asterisk s star _ reader.last_parameter (λ rules. reader.variadic rules Star) found

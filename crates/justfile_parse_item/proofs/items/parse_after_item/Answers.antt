@@ -14,7 +14,7 @@ use Rattle.justfile_parse_item.proofs.DerivedItemFields.{after_ok, pushed_fields
 use Rattle.justfile_parse_item.proofs.items.parse_after_item.Goals as goal
 
 pub make_comment-requires : goal.make_comment-requires
-make_comment-requires g c = begins_hash c.in-Some.field-0.now c.in-Some.ensures.entry
+make_comment-requires g c = begins_hash c.in-Some.field-0.now c.in-Some.ensures.table_token
 
 pub returns-in_ok-push_item-in-Some-clause-reads : goal.returns-in_ok-push_item-in-Some-clause-reads
 unfolding leaves

@@ -15,7 +15,7 @@ use Rattle.justfile_parse_item.proofs.Hashes.{begins_hash}
 use Rattle.justfile_parse_item.proofs.items.parse_item.Goals as goal
 
 pub make_comment-requires : goal.make_comment-requires
-make_comment-requires g c = begins_hash c.in-Some.field-0.now c.in-Some.ensures.entry
+make_comment-requires g c = begins_hash c.in-Some.field-0.now c.in-Some.ensures.table_token
 
 pub parse_construct-requires : goal.parse_construct-requires
 parse_construct-requires g c =

@@ -2,7 +2,7 @@ use Rattle.std.proofs.Common.{ap, arith, length, refl, subst, sym}
 use Rattle.std.specs.Prelude.{IfOk}
 use Rattle.justfile_survey.specs.Parts.{GoesOn}
 use Rattle.justfile_survey.specs.declared.recovery.Found.{Found}
-use Rattle.justfile_survey.proofs.Kept.{parsed, refused}
+use Rattle.justfile_survey.proofs.Kept.{parsed, rejected}
 use Rattle.justfile_survey.proofs.recovery.parse_up_to.Goals as goal
 use Rattle.justfile_survey.proofs.recovery.parse_up_to.Goals.{in-None, in-Some}
 
@@ -17,6 +17,6 @@ returns c =
         omega arith,
       )
       | in-Some w ↦ subst (λ r. IfOk r (GoesOn c.args.source.path.now c.args.source.text.now c.args.part found)) (sym w.result-is)
-          (refused c.args.source.path.now c.args.source.text.now c.args.found.now found c.args.part.start
+          (rejected c.args.source.path.now c.args.source.text.now c.args.found.now found c.args.part.start
           (record { start = c.args.part.start; end = c.last_start-end.result }) c.in_ok-parse.field-0 _ c.requires.parts refl w.in-Some.is c.in_ok-parse.ensures)
     ]

@@ -14,7 +14,7 @@ use Rattle.justfile_parse_expression.specs.View.{state_of}
 use Rattle.justfile_parse_expression.specs.declared.parser_state.ParserState.{ParserState}
 use Rattle.justfile_parse_expression.proofs.Branches as branching
 use Rattle.justfile_parse_expression.proofs.Chains as chains
-use Rattle.justfile_parse_expression.specs.Chains.{branches, link_of, row}
+use Rattle.justfile_parse_expression.specs.Chains.{branches, link_of, chain}
 use Rattle.justfile_parse_expression.proofs.Elements as elements
 use Rattle.justfile_parse_expression.proofs.FormatStrings.{after_expression, after_pair, after_start}
 use Rattle.justfile_parse_expression.proofs.Parts as parts
@@ -91,8 +91,8 @@ parse_pair-parse_part-requires g t c =
 pub parse_format-parse_format_string-requires : goal.parse_format-parse_format_string-requires
 parse_format-parse_format_string-requires g t c κs within =
     let start = c.in-Some.start.now in
-    let ended = after_start g.X.Expander.answer c.args.self.now _ start (state_of g.X.Expander.answer c.accept_marked.new.self) c.in-Some.ensures.takes c.in-Some.ensures.entry.0 in
-    (first_of (grind (arith, common_steps), search rules), (search rules, (c.in-Some.ensures.entry, ended)))
+    let ended = after_start g.X.Expander.answer c.args.self.now _ start (state_of g.X.Expander.answer c.accept_marked.new.self) c.in-Some.ensures.takes c.in-Some.ensures.table_token.0 in
+    (first_of (grind (arith, common_steps), search rules), (search rules, (c.in-Some.ensures.table_token, ended)))
 
 pub parse_parts-returns-in_err-expression-clause-reads : goal.parse_parts-returns-in_err-expression-clause-reads
 parse_parts-returns-in_err-expression-clause-reads g t c =
@@ -100,14 +100,14 @@ parse_parts-returns-in_err-expression-clause-reads g t c =
     let p = err_from_is_err_and c.from_residual.result c.from_residual.ensures.1 in
     rw (p.1, p.2) (parts.stops_at start (state_of g.X.Expander.answer c.parts.self) c.parts.parts.items c.in_err-expression.field-0.0 (state_of g.X.Expander.answer c.parse_pair.new.self) (format_parts start (state_of g.X.Expander.answer c.args.self.now)) c.parts.invariant.value c.in_err-expression.ensures.reads)
 
-pub parse_row-returns-in_err-last-clause-reads : goal.parse_row-returns-in_err-last-clause-reads
-parse_row-returns-in_err-last-clause-reads g t c =
+pub parse_chain-returns-in_err-last-clause-reads : goal.parse_chain-returns-in_err-last-clause-reads
+parse_chain-returns-in_err-last-clause-reads g t c =
     let A = g.X.Expander.answer in
     let p = err_from_is_err_and c.from_residual.result c.from_residual.ensures.1 in
-    rw (p.1, p.2) (chains.stops c.args.level (state_of A c.row.self) c.row.row.items c.row.link c.in_err-last.field-0.0 (state_of A c.parse_step.new.self) (row c.args.level (link_of c.args.first) (state_of A c.args.self.now)) c.row.invariant.value c.in_err-last.ensures.reads)
+    rw (p.1, p.2) (chains.stops c.args.level (state_of A c.chain.self) c.chain.chain.items c.chain.link c.in_err-last.field-0.0 (state_of A c.parse_step.new.self) (chain c.args.level (link_of c.args.first) (state_of A c.args.self.now)) c.chain.invariant.value c.in_err-last.ensures.reads)
 
 pub parse_branches-returns-in_err-last-clause-reads : goal.parse_branches-returns-in_err-last-clause-reads
 parse_branches-returns-in_err-last-clause-reads g t c =
     let A = g.X.Expander.answer in
     let p = err_from_is_err_and c.from_residual.result c.from_residual.ensures.1 in
-    rw (p.1, p.2) (branching.stops c.branches.word (state_of A c.branches.self) c.branches.row.items c.branches.link c.in_err-last.field-0.0 (state_of A c.parse_branch.new.self) (branches (link_of c.args.first) c.args.word.now (state_of A c.args.self.now)) c.branches.invariant.value c.in_err-last.ensures.reads)
+    rw (p.1, p.2) (branching.stops c.branches.word (state_of A c.branches.self) c.branches.chain.items c.branches.link c.in_err-last.field-0.0 (state_of A c.parse_branch.new.self) (branches (link_of c.args.first) c.args.word.now (state_of A c.args.self.now)) c.branches.invariant.value c.in_err-last.ensures.reads)

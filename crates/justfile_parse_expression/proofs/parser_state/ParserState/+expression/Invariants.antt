@@ -4,7 +4,7 @@ use Rattle.justfile_token.specs.Token.{lexeme_of}
 use Rattle.justfile_parse_expression.specs.FormatStrings.{IsEndedFrom}
 use Rattle.justfile_model.specs.Trees.Operators.{rank}
 use Rattle.justfile_parse_expression.specs.TableReader.{Sequence, format_parts, read}
-use Rattle.justfile_parse_expression.specs.Chains.{branches, link_of, row}
+use Rattle.justfile_parse_expression.specs.Chains.{branches, link_of, chain}
 use Rattle.justfile_model.specs.declared.level.Level.TheVariants.{Conjunct}
 use Rattle.justfile_parse_expression.proofs.Chains as chains
 use Rattle.justfile_parse_expression.specs.View.{tokens_left, state_of}
@@ -24,8 +24,8 @@ decreases-parse_operand g l = 32 * tokens_left l.self.now + 12
 abbrev pub decreases-parse_step : goal.decreases-parse_step
 decreases-parse_step g l = 32 * tokens_left l.self.now + 15
 
-abbrev pub decreases-parse_row : goal.decreases-parse_row
-decreases-parse_row g l = 32 * tokens_left l.self.now + 16
+abbrev pub decreases-parse_chain : goal.decreases-parse_chain
+decreases-parse_chain g l = 32 * tokens_left l.self.now + 16
 
 abbrev pub decreases-parse_operations : goal.decreases-parse_operations
 decreases-parse_operations g l = 32 * tokens_left l.self.now + rank l.level + 1
@@ -115,19 +115,19 @@ invariant-parse_parts-parts g l = record {
 abbrev pub decreases-parse_parts-parts : goal.decreases-parse_parts-parts
 decreases-parse_parts-parts g l = tokens_left l.self
 
-abbrev pub invariant-parse_row-row : goal.invariant-parse_row-row
-invariant-parse_row-row g l = record {
+abbrev pub invariant-parse_chain-chain : goal.invariant-parse_chain-chain
+invariant-parse_chain-chain g l = record {
   ahead : tokens_left l.self ≤ tokens_left l.fn.self;
-  value : chains.with_row l.level l.row.items (row l.level (link_of l.link) (state_of g.X.Expander.answer l.self)) ≡ row l.level (link_of l.fn.first) (state_of g.X.Expander.answer l.fn.self);
+  value : chains.with_chain l.level l.chain.items (chain l.level (link_of l.link) (state_of g.X.Expander.answer l.self)) ≡ chain l.level (link_of l.fn.first) (state_of g.X.Expander.answer l.fn.self);
 }
 
-abbrev pub decreases-parse_row-row : goal.decreases-parse_row-row
-decreases-parse_row-row g l = tokens_left l.self
+abbrev pub decreases-parse_chain-chain : goal.decreases-parse_chain-chain
+decreases-parse_chain-chain g l = tokens_left l.self
 
 abbrev pub invariant-parse_branches-branches : goal.invariant-parse_branches-branches
 invariant-parse_branches-branches g l = record {
   ahead : tokens_left l.self ≤ tokens_left l.fn.self;
-  value : chains.with_row Conjunct l.row.items (branches (link_of l.link) l.word (state_of g.X.Expander.answer l.self)) ≡ branches (link_of l.fn.first) l.fn.word (state_of g.X.Expander.answer l.fn.self);
+  value : chains.with_chain Conjunct l.chain.items (branches (link_of l.link) l.word (state_of g.X.Expander.answer l.self)) ≡ branches (link_of l.fn.first) l.fn.word (state_of g.X.Expander.answer l.fn.self);
 }
 
 abbrev pub decreases-parse_branches-branches : goal.decreases-parse_branches-branches

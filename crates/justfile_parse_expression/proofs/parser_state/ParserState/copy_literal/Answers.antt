@@ -5,5 +5,5 @@ use Rattle.justfile_parse_expression.proofs.parser_state.ParserState.copy_litera
 
 pub returns-clause-reads : goal.returns-clause-reads
 returns-clause-reads g c =
-    let literal : StringLiteral = record { cooked = c.in_ok-cooked.cooked; expand = false; kind = c.find_kind.result; part = None; token = c.args.entry.now.0 } in
-    verbatim_given g.X.Expander.answer c.args.self.now c.args.entry.now literal refl (c.requires ∙ ap (λ l. Ok l) (sym c.in_ok-cooked.ensures.ok)) refl c.find_kind.ensures refl
+    let literal : StringLiteral = record { cooked = c.in_ok-cooked.cooked; expand = false; kind = c.find_kind.result; part = None; token = c.args.table_token.now.0 } in
+    verbatim_given g.X.Expander.answer c.args.self.now c.args.table_token.now literal refl (c.requires ∙ ap (λ l. Ok l) (sym c.in_ok-cooked.ensures.ok)) refl c.find_kind.ensures refl
