@@ -4,7 +4,7 @@
 Edits a justfile at random, by ranges, in both encodings. After each edit what the server says of it must be what it
 says of the whole text of a document that was just opened, and at the end what a new server says. The formatting edits
 must lead to a text that has no more edits. Before that it sends what is no message, and asks again, follows links to
-files that are there, and asks what can be written at places of a justfile. Prints a line for each part, and ends with 1
+files that are there, and asks what can be written at places of a justfile and what words and names mean. Prints a line for each part, and ends with 1
 at the first difference.
 """
 import json
@@ -166,6 +166,32 @@ CHOICES = [
     ("x := )\nnew: ", "", "", RECIPES),
     ("x := 'é' é\nnew: ", "", "", RECIPES),
     ("new: ", "\n)\n", "", RECIPES),
+]
+EXPLAINED = [
+    # what is written up to a word, after the text above, the word, and what is written after it: a word of the language,
+    # or nothing that is one
+    ("set ", "no-cd", "", True),
+    ("set ", "shell", " := ['sh']", True),
+    ("set quiet := ", "true", "", True),
+    ("[", "no-cd", "]", True),
+    ("[private, ", "no-exit-message", "]", True),
+    ("new := ", "env", "('A')", True),
+    ("new := ", "RED", " + 'a'", True),
+    ("new := ", "if", " 'a' == 'b' { 'c' } else { 'd' }", True),
+    ("", "alias", " c := tidy", True),
+    ("new:\n    echo {{", "just_pid", "()}}", True),
+    ("new := '", "env", "'", False),
+    ("# ", "env", "", False),
+    ("new:\n    ", "env", "", False),
+    ("new := ", "no-such", "", False),
+]
+HIGHLIGHTED = [
+    # a name and where it begins in the text above, and of its places whether they define it
+    ("target-dir", "target-dir := 'x'", [True, False]),
+    ("tidy", "tidy\n    echo", [False, True]),
+    ("mode", "mode=", [True, False]),
+    ("n", "n + n", [True, False, False]),
+    ("no name", "quiet", []),
 ]
 QUERIES = ["documentSymbol", "foldingRange", "formatting", "documentLink", "semanticTokens/full"]
 
@@ -487,6 +513,40 @@ def complete(program, encoding):
     print(f"{encoding}: what can be written at {len(CHOICES)} places")
 
 
+def explain(program, encoding):
+    """Asks about words of the language and about names at places of a justfile."""
+    server = Server(program, encoding)
+    server.open(DOCUMENT, NAMED)
+    for before, word, after, is_one in EXPLAINED:
+        text = NAMED + before + word + after
+        server.change(DOCUMENT, [{"text": text}])
+        start = len(NAMED + before)
+        places = [position(text, start + at, encoding) for at in (0, len(word) // 2, len(word))]
+        ends = [{"textDocument": {"uri": DOCUMENT}, "position": place} for place in places]
+        offered = server.ask("textDocument/completion", ends[2])["result"]["items"]
+        wanted = ["\n".join(item[key] for key in ("detail", "documentation") if key in item) for item in offered if item["label"] == word and "documentation" in item]
+        check((len(wanted) == 1) == is_one, f"{word!r} after {before!r} is offered as {wanted}")
+        for end in ends:
+            found = server.ask("textDocument/hover", end)["result"]
+            said = [] if found is None else [found["contents"]["value"]]
+            check(said == wanted, f"of {word!r} after {before!r} is said: {said}")
+            if found is not None:
+                check([found["range"]["start"], found["range"]["end"]] == [places[0], places[2]], f"{word!r} is at {found['range']}")
+    server.change(DOCUMENT, [{"text": NAMED}])
+    for place, wanted in (("target-dir := 'x'", "target-dir := 'x'"), ("b := build", "alias b := build"), ("double(", "function double n")):
+        params = {"textDocument": {"uri": DOCUMENT}, "position": position(NAMED, NAMED.index(place), encoding)}
+        found = server.ask("textDocument/hover", params)["result"]["contents"]["value"]
+        check(found == wanted, f"of {place!r} is said {found!r}")
+    for name, place, wanted in HIGHLIGHTED:
+        params = {"textDocument": {"uri": DOCUMENT}, "position": position(NAMED, NAMED.index(place), encoding)}
+        found = server.ask("textDocument/documentHighlight", params)["result"]
+        texts = {NAMED[offset(NAMED, it["range"]["start"], encoding):offset(NAMED, it["range"]["end"], encoding)] for it in found}
+        check(texts <= {name}, f"highlights of {name!r} are {texts}")
+        check([it["kind"] == 3 for it in found] == wanted, f"highlights of {name!r} are {found}")
+    check(server.end() == 0, "the status isn't 0")
+    print(f"{encoding}: what is said of {len(EXPLAINED)} words and 3 names, and {len(HIGHLIGHTED)} names highlighted")
+
+
 def main():
     program = sys.argv[1]
     edits = int(sys.argv[2]) if len(sys.argv) > 2 else 1000
@@ -496,6 +556,7 @@ def main():
     follow_links(program)
     for encoding in ("utf-8", "utf-16"):
         complete(program, encoding)
+        explain(program, encoding)
         edit_at_random(program, encoding, edits // 2, chance)
 
 

@@ -2,8 +2,9 @@
 # Tries the built program justfile_server: server.sh [PROGRAM [EDITS]]
 #
 # Edits a justfile at random and compares what the server says with what a new one says of the whole text, sends what
-# is no message (server.py), renames at random (renames.py), and then drives Neovim without a screen, where there is
-# Neovim (server.lua). Prints a row for each part. Ends with 1 if one ended otherwise than it should.
+# is no message (server.py), renames at random (renames.py), and then drives Neovim without a screen (server.lua) and
+# Emacs with eglot (server.el), where they are. Prints a row for each part. Ends with 1 if one ended otherwise than it
+# should.
 set -u
 top=$(cd "$(dirname "$0")/.." && pwd)
 program=${1:-$top/crates/justfile_server/out/justfile_server}
@@ -20,11 +21,17 @@ for words in '--help:A server' '-h:A server' '--version:justfile_server, commit 
 done
 python3 "$top/bench/server.py" "$program" "${2:-1000}" || status=1
 python3 "$top/bench/renames.py" "$program" || status=1
+printf 'e:="é𝄞\nbuild: clean\n  echo {{e}}\nclean:\n  rm -rf out\n' > "$work/justfile"
 if command -v nvim > /dev/null; then
-    printf 'e:="é𝄞\nbuild: clean\n  echo {{e}}\nclean:\n  rm -rf out\n' > "$work/justfile"
     (cd "$work" && SERVER=$program timeout 120 nvim --headless --clean justfile -c "luafile $top/bench/server.lua") \
         || status=1
 else
     echo "no nvim: Neovim isn't tried"
+fi
+if emacs --batch --no-init-file --eval "(require 'eglot)" > /dev/null 2>&1; then
+    (cd "$work" && HOME=$work SERVER=$program JUSTFILE=$work/justfile timeout 120 \
+        emacs --batch --no-init-file -l "$top/bench/server.el" 2> /dev/null) || status=1
+else
+    echo "no emacs with eglot: it isn't tried"
 fi
 exit $status

@@ -7,13 +7,14 @@ use Rattle.justfile_lines.specs.declared.encoding.Encoding.{Encoding}
 use Rattle.justfile_lines.specs.declared.position.Position.{Position}
 use Rattle.text_edits.specs.declared.edit.Range.{Range}
 use Rattle.editor_messages.specs.declared.answer.Answer.{Answer}
-use Rattle.editor_messages.specs.declared.answer.Answer.TheVariants.{Nothing, Place}
+use Rattle.editor_messages.specs.declared.answer.Answer.TheVariants.{Place}
 use Rattle.editor_language.specs.Mentions.{is_at}
 use Rattle.editor_language.specs.declared.mention.Mention.{Mention}
 use Rattle.editor_language.specs.declared.parts.Analysis.{Analysis}
 use Rattle.editor_language.specs.declared.parts.Span.{Span}
-use Rattle.editor_answers.specs.Names.{AnswersHover, AnswersPlaces, Bounds, Describes, IsDefinedAt, IsNameAt, Locates, if_defined, name_if}
-use Rattle.editor_answers.specs.Ranges.{range_of}
+use Rattle.editor_language.specs.declared.parts.Choices.{Choices}
+use Rattle.editor_answers.specs.Names.{AnswersHighlights, AnswersHover, AnswersPlaces, Bounds, Describes, Explains, IsDefinedAt, IsNameAt, Lights, Locates, explained, if_defined, likes_of, name_if, named}
+use Rattle.editor_answers.specs.Ranges.{highlight_of, range_of}
 use Rattle.editor_answers.specs.Renames.{AnswersEdits, IsRenaming, Renames}
 use denote.Ref.{Bor}
 
@@ -62,9 +63,16 @@ module _ (encoding : Encoding) (text : List ℕ) (mentions : List Mention) (posi
     renamed knows mentioned uri new (Ok answer) h = record { name = name; is_at = at; edits = h }
     renamed knows mentioned uri new (Err e) h = tt
 
-    pub described : {E : Type 0} (r : Result Answer E) → IfOk r (AnswersHover encoding text (Some name)) → IfOk r (Describes encoding text mentions position)
-    described (Ok answer) h = record { name = Some name; is_at = at; hover = h }
-    described (Err e) h = tt
+    pub described : {E : Type 0} (completed : List ℕ → List Mention → ℕ → Choices → Type 0) (r : Result Answer E) → IfOk r (AnswersHover encoding text name)
+        → IfOk r (Describes encoding text mentions position completed)
+    described completed (Ok answer) h = named name at h
+    described completed (Err e) h = tt
 
-  pub undescribed : IsDefinedAt encoding text mentions position None → Describes encoding text mentions position Nothing
-  undescribed at = record { name = None; is_at = at; hover = refl }
+  pub explaining : {E : Type 0} (completed : List ℕ → List Mention → ℕ → Choices → Type 0) (r : Result Answer E) → IsDefinedAt encoding text mentions position None
+      → IfOk r (Explains encoding text mentions position completed) → IfOk r (Describes encoding text mentions position completed)
+  explaining completed (Ok answer) at h = explained at h
+  explaining completed (Err e) at h = tt
+
+  pub lighted : (name : Option Mention) (answer : Answer) → IsNameAt encoding text mentions position name
+      → AnswersHighlights (map (highlight_of encoding text) (likes_of mentions name)) answer → Lights encoding text mentions position answer
+  lighted name answer at is = record { name = name; is_at = at; highlights = is }

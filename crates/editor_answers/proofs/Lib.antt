@@ -5,3 +5,4 @@ pub mod Found
 pub mod Offered
 pub mod Renamed
 pub mod Spoilt
+pub mod Told

@@ -17,7 +17,7 @@ use Rattle.editor_language.specs.declared.parts.FileLink.{FileLink}
 use Rattle.editor_language.specs.declared.parts.Item.{Item}
 use Rattle.editor_answers.specs.Formatting.{Formats, FormatsRange}
 use Rattle.editor_answers.specs.Links.{LinksIn}
-use Rattle.editor_answers.specs.Names.{Bounds, Describes, IsDefinedAt, Locates, definitions_of, mentions_of}
+use Rattle.editor_answers.specs.Names.{Bounds, Describes, IsDefinedAt, Lights, Locates, definitions_of, mentions_of}
 use Rattle.editor_answers.specs.Ranges.{fold_of, range_of, shown, to_show}
 use Rattle.editor_answers.specs.Renames.{Declines, Renames}
 use Rattle.editor_answers.specs.declared.failure.Failure.{Failure}
@@ -56,6 +56,10 @@ pub record OffersAt (completed : List ℕ → List Mention → ℕ → Choices �
 abbrev pub Completes : (mentioned : List ℕ → Analysis → List Mention → Type 0) (completed : List ℕ → List Mention → ℕ → Choices → Type 0) → Encoding → (text : List ℕ) → Analysis → Position → Answer → Type 0
 Completes mentioned completed encoding text analysis position answer = Among mentioned text analysis (OffersAt completed encoding text position answer)
 
+-- the answer tells of the name at a position, or of the word there, by the mentions in the text
+abbrev pub Hovers : (mentioned : List ℕ → Analysis → List Mention → Type 0) (completed : List ℕ → List Mention → ℕ → Choices → Type 0) → Encoding → (text : List ℕ) → Analysis → Position → Answer → Type 0
+Hovers mentioned completed encoding text analysis position answer = Among mentioned text analysis (λ mentions. Describes encoding text mentions position completed answer)
+
 module _ (knows : List ℕ → Analysis → Type 0) (mentioned : List ℕ → Analysis → List Mention → Type 0) where
   -- what is told about the name at a position, by these mentions in a text
   abbrev pub IsAbout : Encoding → (uri text : List ℕ) → Query → (mentions : List Mention) → Answer → Type 0
@@ -63,7 +67,7 @@ module _ (knows : List ℕ → Analysis → Type 0) (mentioned : List ℕ → An
   IsAbout encoding uri text (queries.References position all) mentions answer = Locates encoding text mentions position uri (mentions_of all mentions) answer
   IsAbout encoding uri text (queries.PrepareRename position) mentions answer = Bounds encoding text mentions position answer
   IsAbout encoding uri text (queries.Rename position new) mentions answer = Renames knows mentioned encoding uri text mentions position new.now answer
-  IsAbout encoding uri text (queries.Hover position) mentions answer = Describes encoding text mentions position answer
+  IsAbout encoding uri text (queries.Highlights position) mentions answer = Lights encoding text mentions position answer
   IsAbout encoding uri text other mentions answer = Unit {0}
 
   -- a name is to be replaced, and none that is defined is mentioned at the position, or it can't be replaced
@@ -105,7 +109,8 @@ module _ (knows : List ℕ → Analysis → Type 0) (mentioned : List ℕ → An
   IsAnswer formats unformatted names linked completed (queries.References position all) answer = Tells (queries.References position all) answer
   IsAnswer formats unformatted names linked completed (queries.PrepareRename position) answer = Tells (queries.PrepareRename position) answer
   IsAnswer formats unformatted names linked completed (queries.Rename position new) answer = Replaces names analysis new.now (Tells (queries.Rename position new) answer)
-  IsAnswer formats unformatted names linked completed (queries.Hover position) answer = Tells (queries.Hover position) answer
+  IsAnswer formats unformatted names linked completed (queries.Highlights position) answer = Tells (queries.Highlights position) answer
+  IsAnswer formats unformatted names linked completed (queries.Hover position) answer = Hovers mentioned completed encoding text analysis position answer
   IsAnswer formats unformatted names linked completed queries.Links answer = LinksIn linked encoding uri text analysis answer
   IsAnswer formats unformatted names linked completed (queries.Complete position) answer = Completes mentioned completed encoding text analysis position answer
   IsAnswer formats unformatted names linked completed other answer = Unit {0}

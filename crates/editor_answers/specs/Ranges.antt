@@ -6,8 +6,10 @@ use Rattle.justfile_lines.specs.declared.position.Position.{Position}
 use Rattle.text_edits.specs.declared.edit.Range.{Range}
 use Rattle.editor_messages.specs.declared.answer.Diagnostic.{Diagnostic}
 use Rattle.editor_messages.specs.declared.answer.Fold.{Fold}
+use Rattle.editor_messages.specs.declared.answer.Highlight.{Highlight}
 use Rattle.editor_messages.specs.declared.answer.Symbol.{Symbol}
 use Rattle.editor_messages.specs.declared.symbol_kind.SymbolKind.{SymbolKind}
+use Rattle.editor_language.specs.declared.mention.Mention.{Mention}
 use Rattle.editor_language.specs.declared.parts.Item.{Item}
 use Rattle.editor_language.specs.declared.parts.Problem.{Problem}
 use Rattle.editor_language.specs.declared.parts.Span.{Span}
@@ -24,6 +26,10 @@ range_of encoding text span =
 -- the last line of a range: that before its end, if a line begins there
 abbrev pub last_line_of : Range → ℕ
 last_line_of range = if range.end.column == 0 then range.end.line - 1 else range.end.line
+
+-- where a mention is, and whether it defines its name
+abbrev pub highlight_of : Encoding → (text : List ℕ) → Mention → Highlight
+highlight_of encoding text m = record { range = range_of encoding text m.span; defines = m.defines }
 
 -- the lines from the first of a range to the last, if there are two or more
 abbrev pub fold_in : Range → Option Fold

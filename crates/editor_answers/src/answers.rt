@@ -1,7 +1,7 @@
 //! Answers about a text.
 ghost use Rattle.std.specs.Prelude.{◌≡◌, IfErr, IfOk, IsOkUnless, map};
 ghost use Rattle.editor_messages.specs.declared.message.Query.TheVariants.{Rename};
-ghost use Rattle.editor_answers.specs.Answers.{Completes, FailsFor, IsAbout, IsAnswer, IsRefused, Lacks, LacksName, Offers, RefusesName, Replaces, ShowsFolds, ShowsItems, Tells};
+ghost use Rattle.editor_answers.specs.Answers.{Completes, FailsFor, Hovers, IsAbout, IsAnswer, IsRefused, Lacks, LacksName, Offers, RefusesName, Replaces, ShowsFolds, ShowsItems, Tells};
 ghost use Rattle.editor_answers.specs.Links.{LinksIn};
 ghost use Rattle.editor_answers.specs.Ranges.{to_tell, told};
 
@@ -10,7 +10,7 @@ use crate::asked::Asked;
 use crate::colors::token_numbers;
 use crate::failure::Failure;
 use crate::formats::{format, format_range};
-use crate::names::{definition, hover, references, rename, replaceable};
+use crate::names::{definition, highlights, hover, references, rename, replaceable};
 use crate::renames::is_right;
 use crate::shown::Shown;
 use editor_language::{Analysis, Choices, Language, Mention, Problem};
@@ -98,7 +98,8 @@ fn answer_of<L: Language>(
             about_name(alloc, language, asked, Query::References(at, all))
         }
         Query::PrepareRename(at) => about_name(alloc, language, asked, Query::PrepareRename(at)),
-        Query::Hover(at) => about_name(alloc, language, asked, Query::Hover(at)),
+        Query::Highlights(at) => about_name(alloc, language, asked, Query::Highlights(at)),
+        Query::Hover(at) => hover_at(alloc, language, asked, at),
     }
 }
 
@@ -171,12 +172,13 @@ fn told<L: Language>(
         Query::References(position, all) => references(alloc, asked, mentions, position, all),
         Query::PrepareRename(position) => replaceable(asked, mentions, position),
         Query::Rename(position, new) => { rename(alloc, language, asked, mentions, position, new) }
-        Query::Hover(position) => hover(alloc, language, asked, mentions, position),
+        Query::Highlights(position) => highlights(alloc, asked, mentions, position),
         Query::Symbols
         | Query::Folds
         | Query::Format
         | Query::FormatRange(_)
         | Query::Complete(_)
+        | Query::Hover(_)
         | Query::Tokens
         | Query::Links => Ok(Answer::Nothing),
     }
@@ -248,6 +250,22 @@ fn complete<L: Language>(
     let mentions = asked.mentions(alloc, language)?;
     let choices = language.completions(alloc, asked.text, &mentions, offset)?;
     Ok(completions(asked, choices))
+}
+
+/// Returns what is known of the name at a position, or what the language has for the word there.
+#[tactic(auto, using(crate::proofs::Failed::tells_among))]
+fn hover_at<L: Language>(
+    alloc: Global,
+    language: &L,
+    asked: &Asked<'_>,
+    position: Position,
+) -> Result<Answer, Failure>
+    ensures ok { IfOk result (Hovers L.mentioned L.completed asked.now.shown.encoding
+        asked.now.text.now asked.now.analysis.now position) }
+    ensures failed { IsOkUnless result Failure.Memory }
+{
+    let mentions = asked.mentions(alloc, language)?;
+    hover(alloc, language, asked, &mentions, position)
 }
 
 /// Returns the answer that offers what can be written somewhere.

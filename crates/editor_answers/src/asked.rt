@@ -1,10 +1,12 @@
 //! What is asked about.
-ghost use Rattle.std.specs.Prelude.{◌≡◌, IfOk, map};
+ghost use Rattle.std.specs.Prelude.{◌≡◌, IfOk, filter, map};
 ghost use Rattle.justfile_lines.specs.Positions.{IsOffset};
-ghost use Rattle.editor_answers.specs.Ranges.{range_of};
+ghost use Rattle.editor_language.specs.Mentions.{is_like};
+ghost use Rattle.editor_answers.specs.Ranges.{highlight_of, range_of};
 
 use crate::shown::Shown;
 use editor_language::{Analysis, Language, Mention, Span};
+use editor_messages::Highlight;
 use justfile_lines::Position;
 use std::alloc::{AllocError, Global};
 use text_edits::Range;
@@ -48,6 +50,20 @@ impl<'a> Asked<'a> {
         ensures { result ≡ range_of self.now.shown.encoding self.now.text.now span }
     {
         self.shown.range(span)
+    }
+
+    /// Returns where a name is mentioned.
+    pub(crate) fn highlights(
+        &self,
+        alloc: Global,
+        mentions: &[Mention],
+        name: &Mention,
+    ) -> Result<Vec<Highlight>, AllocError>
+        ensures { IfOk result (λ found. found.items
+            ≡ map (highlight_of self.now.shown.encoding self.now.text.now)
+            (filter (is_like name.now) mentions.now)) }
+    {
+        self.shown.highlights(alloc, mentions, name)
     }
 
     /// Returns the ranges of parts of the text.

@@ -5,6 +5,7 @@ mod addresses;
 mod answers;
 mod asked;
 mod colors;
+mod explained;
 mod failure;
 mod formats;
 mod names;

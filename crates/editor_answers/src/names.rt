@@ -2,15 +2,16 @@
 ghost use Rattle.std.specs.Prelude.{◌≡◌, ◌∷◌, [], IfErr, IfOk, IsOkUnless, filter, map};
 ghost use Rattle.std.specs.Option.{option_copied};
 ghost use Rattle.editor_answers.specs.Answers.{FailsFor};
-ghost use Rattle.editor_answers.specs.Names.{AnswersHover, AnswersPlaces, Bounds, Describes, IsDefinedAt, IsNameAt, Locates, definitions_of, if_defined, is_wanted, mentions_of};
-ghost use Rattle.editor_answers.specs.Ranges.{range_of};
+ghost use Rattle.editor_answers.specs.Names.{AnswersHover, AnswersPlaces, Bounds, Describes, IsDefinedAt, IsNameAt, Lights, Locates, definitions_of, if_defined, is_wanted, likes_of, mentions_of};
+ghost use Rattle.editor_answers.specs.Ranges.{highlight_of, range_of};
 ghost use Rattle.editor_answers.specs.Renames.{Declines, Renames};
 
 use crate::asked::Asked;
+use crate::explained::explain;
 use crate::failure::Failure;
 use crate::renames::replaced;
 use editor_language::{Language, Mention, Span, definition_of, is_like, mention_at};
-use editor_messages::{Answer, ErrorCode, Hover};
+use editor_messages::{Answer, ErrorCode, Highlight, Hover};
 use justfile_lines::Position;
 use std::alloc::{AllocError, Global};
 
@@ -218,8 +219,43 @@ pub(crate) fn rename<L: Language>(
     }
 }
 
-/// Returns what is known of the name at a position, if it is defined in the document.
-#[tactic(auto, using(crate::proofs::Found::described, crate::proofs::Found::undescribed))]
+/// Returns where the name at a position is mentioned.
+#[tactic(auto, using(crate::proofs::Found::lighted))]
+pub(crate) fn highlights(
+    alloc: Global,
+    asked: &Asked<'_>,
+    mentions: &[Mention],
+    position: Position,
+) -> Result<Answer, Failure>
+    ensures ok { IfOk result
+        (Lights asked.now.shown.encoding asked.now.text.now mentions.now position) }
+    ensures failed { IsOkUnless result Failure.Memory }
+{
+    let name = name_at(asked, mentions, position);
+    let found = highlights_of(alloc, asked, mentions, name)?;
+    Ok(Answer::Highlights(found))
+}
+
+/// Returns where a name is mentioned, if there is one.
+fn highlights_of(
+    alloc: Global,
+    asked: &Asked<'_>,
+    mentions: &[Mention],
+    name: Option<&Mention>,
+) -> Result<Vec<Highlight>, AllocError>
+    ensures { IfOk result (λ found. found.items
+        ≡ map (highlight_of asked.now.shown.encoding asked.now.text.now)
+        (likes_of mentions.now (option_copied name.entry))) }
+{
+    match name {
+        Some(name) => asked.highlights(alloc, mentions, name),
+        None => Ok(Vec::new(alloc)),
+    }
+}
+
+/// Returns what is known of the name at a position, if it is defined in the document, and otherwise
+/// what the language has for the word there.
+#[tactic(auto, using(crate::proofs::Found::described, crate::proofs::Found::explaining))]
 pub(crate) fn hover<L: Language>(
     alloc: Global,
     language: &L,
@@ -228,12 +264,12 @@ pub(crate) fn hover<L: Language>(
     position: Position,
 ) -> Result<Answer, Failure>
     ensures ok { IfOk result (Describes asked.now.shown.encoding asked.now.text.now mentions.now
-        position) }
+        position L.completed) }
     ensures failed { IsOkUnless result Failure.Memory }
 {
     match defined_at(asked, mentions, position) {
         Some(name) => describe(alloc, language, asked, mentions, name),
-        None => Ok(Answer::Nothing),
+        None => explain(alloc, language, asked, mentions, position),
     }
 }
 
@@ -246,7 +282,7 @@ fn describe<L: Language>(
     name: &Mention,
 ) -> Result<Answer, Failure>
     ensures ok { IfOk result
-        (AnswersHover asked.now.shown.encoding asked.now.text.now (Some name.now)) }
+        (AnswersHover asked.now.shown.encoding asked.now.text.now name.now) }
     ensures failed { IsOkUnless result Failure.Memory }
 {
     let definition = definition_of(mentions, name).unwrap_or(name);

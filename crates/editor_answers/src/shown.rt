@@ -1,14 +1,15 @@
 //! What is known of a text, as an editor is shown it.
-ghost use Rattle.std.specs.Prelude.{◌≡◌, ◌≤◌, ◌++◌, IfOk, OnOk, length, map};
+ghost use Rattle.std.specs.Prelude.{◌≡◌, ◌≤◌, ◌++◌, IfOk, OnOk, filter, length, map};
 ghost use Rattle.std.specs.List.{filter_map};
 ghost use Rattle.std.specs.Option.{option_to_list};
 ghost use Rattle.editor_answers.specs.Links.{pointed, to_point};
 ghost use Rattle.justfile_lines.specs.Positions.{IsOffset, IsPlace};
-ghost use Rattle.editor_answers.specs.Ranges.{fold_of, last_line_of, position_of, range_of, shown, to_show, to_tell, told};
+ghost use Rattle.editor_language.specs.Mentions.{is_like};
+ghost use Rattle.editor_answers.specs.Ranges.{fold_of, highlight_of, last_line_of, position_of, range_of, shown, to_show, to_tell, told};
 
 use crate::addresses::address;
-use editor_language::{FileLink, Item, Part, Problem, Span};
-use editor_messages::{Diagnostic, Fold, Link, Symbol};
+use editor_language::{FileLink, Item, Mention, Part, Problem, Span, is_like};
+use editor_messages::{Diagnostic, Fold, Highlight, Link, Symbol};
 use justfile_lines::{Encoding, Lines, Place, Position};
 use std::alloc::{AllocError, Global};
 use text_edits::{Range, TextEdit};
@@ -101,6 +102,32 @@ impl<'a> Shown<'a> {
             known = end;
         }
         Ok(ranges)
+    }
+
+    /// Returns where a name is mentioned.
+    pub(crate) fn highlights(
+        &self,
+        alloc: Global,
+        mentions: &[Mention],
+        name: &Mention,
+    ) -> Result<Vec<Highlight>, AllocError>
+        ensures { IfOk result (λ found. found.items
+            ≡ map (highlight_of self.now.encoding self.now.lines.text.now)
+            (filter (is_like name.now) mentions.now)) }
+    {
+        let mut highlights = Vec::new(alloc);
+        let mut known = Place::start();
+        for mention in mentions {
+            if is_like(name, mention) {
+                let (range, end) = self.range_after(known, mention.span);
+                highlights.push(Highlight {
+                    range,
+                    defines: mention.defines,
+                })?;
+                known = end;
+            }
+        }
+        Ok(highlights)
     }
 
     /// Returns what is wrong in the text.

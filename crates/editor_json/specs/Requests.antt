@@ -61,6 +61,7 @@ question_in methods.Formatting d = Some (plain queries.Format)
 question_in methods.RangeFormatting d = option_map (λ r. plain (queries.FormatRange r)) (range_in d)
 question_in methods.Definition d = at_position queries.Definition d
 question_in methods.References d = references_in d
+question_in methods.DocumentHighlight d = at_position queries.Highlights d
 question_in methods.PrepareRename d = at_position queries.PrepareRename d
 question_in methods.Rename d = rename_in d
 question_in methods.Hover d = at_position queries.Hover d

@@ -9,13 +9,14 @@ use Rattle.justfile_lines.specs.declared.encoding.Encoding.TheVariants.{Utf8, Ut
 use Rattle.justfile_lines.specs.declared.position.Position.{Position}
 use Rattle.text_edits.specs.declared.edit.Range.{Range}
 use Rattle.text_edits.specs.declared.edit.TextEdit.{TextEdit}
-use Rattle.editor_messages.specs.Numbers.{completion_number, error_number, symbol_number}
+use Rattle.editor_messages.specs.Numbers.{completion_number, error_number, highlight_number, symbol_number}
 use Rattle.editor_messages.specs.declared.answer.Answer.{Answer}
 use Rattle.editor_messages.specs.declared.answer.Answer.TheVariants as answers
 use Rattle.editor_messages.specs.declared.answer.Completion.{Completion}
 use Rattle.editor_messages.specs.declared.answer.Completions.{Completions}
 use Rattle.editor_messages.specs.declared.answer.Diagnostic.{Diagnostic}
 use Rattle.editor_messages.specs.declared.answer.Fold.{Fold}
+use Rattle.editor_messages.specs.declared.answer.Highlight.{Highlight}
 use Rattle.editor_messages.specs.declared.answer.Hover.{Hover}
 use Rattle.editor_messages.specs.declared.answer.Link.{Link}
 use Rattle.editor_messages.specs.declared.answer.Symbol.{Symbol}
@@ -70,6 +71,9 @@ symbol_data s = object (member (codes "kind") (count_data (symbol_number s.kind)
 
 abbrev pub fold_data : Fold → Data
 fold_data f = object (member (codes "endLine") (count_data f.last) (member (codes "startLine") (count_data f.first) no_members))
+
+abbrev pub highlight_data : Highlight → Data
+highlight_data h = object (member (codes "kind") (count_data (highlight_number h)) (member (codes "range") (range_data h.range) no_members))
 
 -- an edit that puts a text in place of a range
 abbrev pub put_data : Range → (new : List ℕ) → Data
@@ -150,7 +154,7 @@ abbrev pub middle_abilities : Encoding → Members
 middle_abilities encoding = member (codes "documentRangeFormattingProvider") (boolean true) (member (codes "documentSymbolProvider") (boolean true) (member (codes "foldingRangeProvider") (boolean true) (member (codes "hoverProvider") (boolean true) (last_abilities encoding))))
 
 abbrev pub abilities : Encoding → Members
-abilities encoding = member (codes "completionProvider") completion_ability (member (codes "definitionProvider") (boolean true) (member (codes "documentFormattingProvider") (boolean true) (member (codes "documentLinkProvider") nothing_more (middle_abilities encoding))))
+abilities encoding = member (codes "completionProvider") completion_ability (member (codes "definitionProvider") (boolean true) (member (codes "documentFormattingProvider") (boolean true) (member (codes "documentHighlightProvider") (boolean true) (member (codes "documentLinkProvider") nothing_more (middle_abilities encoding)))))
 
 abbrev pub server_data : Data
 server_data = object (member (codes "name") (text_data (codes "justfile_server")) no_members)
@@ -167,6 +171,7 @@ result_data (answers.Folds folds) = list_data fold_data folds.items
 result_data (answers.Edits edits) = list_data edit_data edits.items
 result_data (answers.Places uri ranges) = list_data (place_data (string_bytes uri)) ranges.items
 result_data (answers.Place range) = range_data range
+result_data (answers.Highlights highlights) = list_data highlight_data highlights.items
 result_data (answers.Rename rename) = rename_data (string_bytes rename.uri) rename.edits.items
 result_data (answers.Hover hover) = hover_data hover
 result_data (answers.Completions completions) = completions_data completions

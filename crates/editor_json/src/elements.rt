@@ -2,12 +2,12 @@
 ghost use Rattle.std.specs.Prelude.{◌≡◌, IfOk, string_bytes};
 ghost use Rattle.serde_json.specs.View.{view};
 ghost use Rattle.serde_json.specs.Written.{compact_text};
-ghost use Rattle.editor_json.specs.Sent.{completion_data, count_data, diagnostic_data, edit_data, fold_data, link_data, optional_text, place_data, put_data, symbol_data};
+ghost use Rattle.editor_json.specs.Sent.{completion_data, count_data, diagnostic_data, edit_data, fold_data, highlight_data, link_data, optional_text, place_data, put_data, symbol_data};
 
 use crate::lists::Written;
 use crate::results::quoted;
 use crate::values::{range_value, text_of};
-use editor_messages::{Completion, Diagnostic, Fold, Link, Symbol};
+use editor_messages::{Completion, Diagnostic, Fold, Highlight, Link, Symbol};
 use serde_json::{Value, json};
 use std::alloc::{AllocError, Global};
 use text_edits::{Range, TextEdit};
@@ -88,6 +88,26 @@ fn symbol_value(alloc: Global, symbol: &Symbol) -> Result<Value, AllocError>
     let name = symbol.name.as_str();
     let kind = symbol.kind.number();
     json!(in alloc; {"name": name, "kind": kind, "range": range, "selectionRange": selection})
+}
+
+impl Written for Highlight {
+    type Shared = ();
+
+    ghost written = { λ _. highlight_data };
+
+    fn text(&self, alloc: Global, _shared: &()) -> Result<String, AllocError> {
+        let value = highlight_value(alloc, *self)?;
+        text_of(alloc, &value)
+    }
+}
+
+/// Returns where a name is.
+fn highlight_value(alloc: Global, highlight: Highlight) -> Result<Value, AllocError>
+    ensures { IfOk result (λ v. view v ≡ highlight_data highlight) }
+{
+    let range = range_value(alloc, highlight.range)?;
+    let kind = highlight.number();
+    json!(in alloc; {"kind": kind, "range": range})
 }
 
 impl Written for Fold {

@@ -72,6 +72,7 @@ fn query_of<'a>(method: Method, parameters: &'a Value) -> Option<Query<'a>>
         Method::RangeFormatting => Some(Query::FormatRange(range_in(parameters)?)),
         Method::Definition => Some(Query::Definition(position_in(parameters)?)),
         Method::References => references_in(parameters),
+        Method::DocumentHighlight => Some(Query::Highlights(position_in(parameters)?)),
         Method::PrepareRename => Some(Query::PrepareRename(position_in(parameters)?)),
         Method::Rename => rename_in(parameters),
         Method::Hover => Some(Query::Hover(position_in(parameters)?)),

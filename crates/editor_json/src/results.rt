@@ -25,6 +25,7 @@ pub(crate) fn result_text(alloc: Global, answer: &Answer) -> Result<String, Allo
         Answer::Edits(edits) => list_text(alloc, &(), edits),
         Answer::Places(uri, ranges) => list_text(alloc, uri, ranges),
         Answer::Place(range) => range_text(alloc, *range),
+        Answer::Highlights(highlights) => list_text(alloc, &(), highlights),
         Answer::Rename(rename) => rename_text(alloc, rename.uri.as_str(), &rename.edits),
         Answer::Hover(hover) => hover_text(alloc, hover),
         Answer::Completions(completions) => completions_text(alloc, completions),
@@ -52,6 +53,7 @@ const BEFORE: &str = "{\"capabilities\":{\
         \"(\",\",\",\":\",\"=\",\"[\",\"{\"]},\
     \"definitionProvider\":true,\
     \"documentFormattingProvider\":true,\
+    \"documentHighlightProvider\":true,\
     \"documentLinkProvider\":{},\
     \"documentRangeFormattingProvider\":true,\
     \"documentSymbolProvider\":true,\

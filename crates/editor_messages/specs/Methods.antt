@@ -18,6 +18,7 @@ method_name methods.Formatting = codes "textDocument/formatting"
 method_name methods.RangeFormatting = codes "textDocument/rangeFormatting"
 method_name methods.Definition = codes "textDocument/definition"
 method_name methods.References = codes "textDocument/references"
+method_name methods.DocumentHighlight = codes "textDocument/documentHighlight"
 method_name methods.PrepareRename = codes "textDocument/prepareRename"
 method_name methods.Rename = codes "textDocument/rename"
 method_name methods.Hover = codes "textDocument/hover"
@@ -26,7 +27,7 @@ method_name methods.SemanticTokens = codes "textDocument/semanticTokens/full"
 method_name methods.DocumentLink = codes "textDocument/documentLink"
 
 abbrev pub all_methods : List Method
-all_methods = methods.Initialize ∷ methods.Shutdown ∷ methods.Exit ∷ methods.DidOpen ∷ methods.DidChange ∷ methods.DidClose ∷ methods.DocumentSymbol ∷ methods.FoldingRange ∷ methods.Formatting ∷ methods.RangeFormatting ∷ methods.Definition ∷ methods.References ∷ methods.PrepareRename ∷ methods.Rename ∷ methods.Hover ∷ methods.Completion ∷ methods.SemanticTokens ∷ methods.DocumentLink ∷ []
+all_methods = methods.Initialize ∷ methods.Shutdown ∷ methods.Exit ∷ methods.DidOpen ∷ methods.DidChange ∷ methods.DidClose ∷ methods.DocumentSymbol ∷ methods.FoldingRange ∷ methods.Formatting ∷ methods.RangeFormatting ∷ methods.Definition ∷ methods.References ∷ methods.DocumentHighlight ∷ methods.PrepareRename ∷ methods.Rename ∷ methods.Hover ∷ methods.Completion ∷ methods.SemanticTokens ∷ methods.DocumentLink ∷ []
 
 -- the method with this name
 unfoldable pub method_named : List ℕ → Option Method

@@ -1,7 +1,8 @@
 -- The numbers that the protocol has.
-use Rattle.std.specs.Prelude.{ℕ, ℤ, pos, neg_ℤ}
+use Rattle.std.specs.Prelude.{ℕ, ℤ, cond, pos, neg_ℤ}
 use Rattle.editor_messages.specs.declared.answer.CompletionKind.{CompletionKind}
 use Rattle.editor_messages.specs.declared.answer.CompletionKind.TheVariants as completions
+use Rattle.editor_messages.specs.declared.answer.Highlight.{Highlight}
 use Rattle.editor_messages.specs.declared.error_code.ErrorCode.{ErrorCode}
 use Rattle.editor_messages.specs.declared.error_code.ErrorCode.TheVariants as errors
 use Rattle.editor_messages.specs.declared.symbol_kind.SymbolKind.{SymbolKind}
@@ -30,3 +31,7 @@ completion_number completions.Property = 10
 completion_number completions.Value = 12
 completion_number completions.Keyword = 14
 completion_number completions.Constant = 21
+
+-- a place where a name is written, if it defines the name, or read
+abbrev pub highlight_number : Highlight → ℕ
+highlight_number h = cond h.defines 3 2

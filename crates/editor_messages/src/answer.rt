@@ -1,6 +1,6 @@
 //! What is answered.
 ghost use Rattle.std.specs.Prelude.{◌≡◌};
-ghost use Rattle.editor_messages.specs.Numbers.{completion_number};
+ghost use Rattle.editor_messages.specs.Numbers.{completion_number, highlight_number};
 
 use crate::symbol_kind::SymbolKind;
 use justfile_lines::Encoding;
@@ -35,6 +35,24 @@ pub struct Fold {
     pub first: usize,
     /// The last line.
     pub last: usize,
+}
+
+/// Where a name is.
+#[derive(Clone, Copy)]
+pub struct Highlight {
+    /// Its place.
+    pub range: Range,
+    /// Whether the name is defined there.
+    pub defines: bool,
+}
+
+impl Highlight {
+    /// Returns the number that the protocol has for a place where a name is read, or where it is written.
+    pub fn number(self) -> usize
+        ensures { result ≡ highlight_number self }
+    {
+        if self.defines { 3 } else { 2 }
+    }
 }
 
 /// Edits of a document.
@@ -138,6 +156,8 @@ pub enum Answer {
     Places(String, Vec<Range>),
     /// A range of the document.
     Place(Range),
+    /// Where a name is.
+    Highlights(Vec<Highlight>),
     /// Edits of the document with an address.
     Rename(Rename),
     /// What is known of a name.

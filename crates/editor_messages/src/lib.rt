@@ -10,7 +10,8 @@ mod method;
 mod symbol_kind;
 
 pub use answer::{
-    Answer, Completion, CompletionKind, Completions, Diagnostic, Fold, Hover, Link, Rename, Symbol,
+    Answer, Completion, CompletionKind, Completions, Diagnostic, Fold, Highlight, Hover, Link,
+    Rename, Symbol,
 };
 pub use change::{Change, changed_text};
 pub use error_code::ErrorCode;

@@ -28,6 +28,8 @@ pub enum Query<'a> {
     Definition(Position),
     /// Where the name at a position is used, and where it is defined too if that is asked.
     References(Position, bool),
+    /// Where the name at a position is, to highlight it.
+    Highlights(Position),
     /// Whether there is a name at a position that can be replaced.
     PrepareRename(Position),
     /// Edits that replace the name at a position by another one.

@@ -29,6 +29,8 @@ pub enum Method {
     Definition,
     /// Asks where a name is used.
     References,
+    /// Asks where a name is, to highlight it.
+    DocumentHighlight,
     /// Asks whether there is a name that can be replaced.
     PrepareRename,
     /// Asks for edits that replace a name.
@@ -44,7 +46,7 @@ pub enum Method {
 }
 
 /// All methods.
-static METHODS: [Method; 18] = [
+static METHODS: [Method; 19] = [
     Method::Initialize,
     Method::Shutdown,
     Method::Exit,
@@ -57,6 +59,7 @@ static METHODS: [Method; 18] = [
     Method::RangeFormatting,
     Method::Definition,
     Method::References,
+    Method::DocumentHighlight,
     Method::PrepareRename,
     Method::Rename,
     Method::Hover,
@@ -90,6 +93,7 @@ impl Method {
             Method::RangeFormatting => "textDocument/rangeFormatting",
             Method::Definition => "textDocument/definition",
             Method::References => "textDocument/references",
+            Method::DocumentHighlight => "textDocument/documentHighlight",
             Method::PrepareRename => "textDocument/prepareRename",
             Method::Rename => "textDocument/rename",
             Method::Hover => "textDocument/hover",

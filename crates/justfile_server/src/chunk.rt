@@ -3,8 +3,10 @@ ghost use Rattle.std.specs.Prelude.{◌≡◌, ◌-◌};
 ghost use Rattle.justfile_server.specs.Links.{IsChunk};
 
 use editor_language::{Analysis, Item, Mention, Span};
+use justfile_canonical::formatting::format_text;
 use justfile_canonical::reading::symbols;
 use justfile_outline::Symbol;
+use justfile_vocabulary::ItemKind;
 use std::alloc::{AllocError, Global};
 
 /// Returns where the text begins that is parsed for an item: with the line feed before it, so that it
@@ -49,23 +51,45 @@ pub(crate) fn description_of(
     }
 }
 
-/// Returns what is shown of the item in a text: its kind, its name, its parameters and its doc.
+/// Returns what is shown of the item in a text: of an assignment or an alias the item as it is
+/// formatted, and of another one its kind, its name, its parameters and its doc.
 fn item_description(alloc: Global, chunk: &str, name: &str) -> Result<String, AllocError> {
     match symbols(alloc, "justfile", chunk) {
-        Ok(symbols) => symbol_description(alloc, &symbols, name),
+        Ok(symbols) => first_description(alloc, chunk, &symbols, name),
         Err(_) => name.to_string(alloc),
     }
 }
 
-/// Returns what is shown of the first symbol, if there is one.
-fn symbol_description(
+/// Returns what is shown of the first symbol of a text, if there is one.
+fn first_description(
     alloc: Global,
+    chunk: &str,
     symbols: &[Symbol<'_>],
     name: &str,
 ) -> Result<String, AllocError> {
     let Some(symbol) = symbols.first() else {
         return name.to_string(alloc);
     };
+    if matches!(symbol.kind, ItemKind::Alias | ItemKind::Assignment) {
+        return formatted(alloc, chunk, name);
+    }
+    symbol_description(alloc, symbol, name)
+}
+
+/// Returns the formatted text of an item, or its name if it can't be formatted.
+fn formatted(alloc: Global, chunk: &str, name: &str) -> Result<String, AllocError> {
+    match format_text(alloc, "justfile", chunk) {
+        Ok(text) => text.as_str().trim().to_string(alloc),
+        Err(_) => name.to_string(alloc),
+    }
+}
+
+/// Returns what is shown of a symbol.
+fn symbol_description(
+    alloc: Global,
+    symbol: &Symbol<'_>,
+    name: &str,
+) -> Result<String, AllocError> {
     let kind = symbol.kind;
     let parameters = symbol.parameters.as_str();
     match &symbol.doc {
