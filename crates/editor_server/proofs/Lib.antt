@@ -1,3 +1,5 @@
+pub mod Going
+pub mod Handled
 pub mod Kept
 pub mod Restored
 pub mod Unread

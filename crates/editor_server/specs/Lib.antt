@@ -1,4 +1,5 @@
+pub mod Answering
 pub mod Changed
 pub mod Model
-pub mod Answering
+pub mod Served
 pub mod Steps

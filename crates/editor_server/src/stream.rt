@@ -1,5 +1,8 @@
 //! Serving an editor over streams.
+ghost use Rattle.std.specs.Prelude.{◌≡◌, IfOk, None, OnOk};
+ghost use Rattle.editor_messages.specs.declared.error_code.ErrorCode.TheVariants.{InternalError, InvalidRequest};
 ghost use Rattle.editor_server.specs.Changed.{AreKnown};
+ghost use Rattle.editor_server.specs.Served.{Handles, IsServed, Takes, Tells, Writes};
 
 use crate::sent::Sent;
 use crate::server::Server;
@@ -22,13 +25,16 @@ const CUT_OFF: u8 = 1;
 /// # Errors
 ///
 /// Reading or writing failed.
-#[tactic(auto, using(crate::proofs::Kept::known_empty))]
 pub fn serve<L: Language, R: BufRead, W: Write>(
     alloc: Global,
     language: &L,
     reader: &mut R,
     writer: &mut W,
-) -> io::Result<u8> {
+) -> io::Result<u8>
+    ensures { IfOk result (λ status. IsServed L.knows L.mentioned L.formats L.unformatted L.names
+        L.linked L.completed (R.remaining reader.old) (W.contents writer.old) status
+        (R.remaining reader.new) (W.contents writer.new)) }
+{
     let mut server = Server::new(alloc);
     for _ in 0..u64::MAX {
         let received = read_message(alloc, LIMIT, reader)?;
@@ -40,7 +46,7 @@ pub fn serve<L: Language, R: BufRead, W: Write>(
 }
 
 /// Answers what was received. Returns the exit status if the server is to exit.
-#[tactic(auto, using(crate::proofs::Unread::known_unread))]
+#[tactic(auto, using(crate::proofs::Unread::known_unread, crate::proofs::Handled::lost_and_told))]
 fn answer<L: Language, W: Write>(
     alloc: Global,
     language: &L,
@@ -49,7 +55,10 @@ fn answer<L: Language, W: Write>(
     writer: &mut W,
 ) -> io::Result<Option<u8>>
     requires { AreKnown L.knows server.old.documents.list }
-    ensures { AreKnown L.knows server.new.documents.list }
+    ensures known { AreKnown L.knows server.new.documents.list }
+    ensures takes { IfOk result (Takes L.knows L.mentioned L.formats L.unformatted L.names
+        L.linked L.completed received server.old server.new (W.contents writer.old)
+        (W.contents writer.new)) }
 {
     match received {
         Received::End => Ok(Some(CUT_OFF)),
@@ -76,7 +85,10 @@ fn react<L: Language, W: Write>(
     writer: &mut W,
 ) -> io::Result<Option<u8>>
     requires { AreKnown L.knows server.old.documents.list }
-    ensures { AreKnown L.knows server.new.documents.list }
+    ensures known { AreKnown L.knows server.new.documents.list }
+    ensures handles { IfOk result (Handles L.knows L.mentioned L.formats L.unformatted L.names
+        L.linked L.completed body.now server.old server.new (W.contents writer.old)
+        (W.contents writer.new)) }
 {
     match server.react(alloc, language, body) {
         Ok(Sent::Nothing) => Ok(None),
@@ -87,18 +99,26 @@ fn react<L: Language, W: Write>(
 }
 
 /// Sends a message. The server goes on.
-fn send<W: Write>(alloc: Global, body: &str, writer: &mut W) -> io::Result<Option<u8>> {
+fn send<W: Write>(alloc: Global, body: &str, writer: &mut W) -> io::Result<Option<u8>>
+    ensures writes { OnOk result
+        (Writes body.now (W.contents writer.old) (W.contents writer.new)) }
+    ensures goes_on { IfOk result (λ exits. exits ≡ None) }
+{
     write_message(alloc, body, writer)?;
     Ok(None)
 }
 
 /// Tells why a message isn't answered, unless there is too little memory for that. The server goes on.
+#[tactic(auto, using(crate::proofs::Handled::untold))]
 fn refuse<W: Write>(
     alloc: Global,
     code: ErrorCode,
     message: &str,
     writer: &mut W,
-) -> io::Result<Option<u8>> {
+) -> io::Result<Option<u8>>
+    ensures tells { OnOk result (Tells code (W.contents writer.old) (W.contents writer.new)) }
+    ensures goes_on { IfOk result (λ exits. exits ≡ None) }
+{
     match error_text(alloc, None, code, message) {
         Ok(text) => send(alloc, text.as_str(), writer),
         Err(_) => Ok(None),
