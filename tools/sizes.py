@@ -3,9 +3,9 @@
 
 A row for each crate, or each that is named: its functions; its lines of code with contracts (+ lines of tests), of
 definitions (`specs/`) and of proofs, none of them blank, without rows of data; the seconds of the processor that
-`rt ci` takes from nothing for its proof (+ its tests) and for its wrong bodies; and those for its proof with those of
-the crates below it. Then the longest chain of crates. Times are those of docs/times.txt, which measure.py writes while
-it runs the gate: compare only times of one load, since beside seven others a check counts up to twice as many seconds.
+`rt ci` takes for its proof (+ its tests) and for its wrong bodies. Then the longest chain of crates. Times are those of
+docs/times.txt, which measure.py writes while it runs the gate: compare only times of one load, since beside seven
+others a check counts up to twice as many seconds.
 """
 import re
 import sys
@@ -17,7 +17,7 @@ CRATES = TOP / "crates"
 TIMES = TOP / "docs/times.txt"
 PAGE = TOP / "docs/SIZES.md"
 PARTS = ("proof", "tests", "wrong bodies")
-HEAD = ("crate", "functions", "code", "definitions", "proofs", "s: proof", "s: wrong bodies", "s: proof, from nothing")
+HEAD = ("crate", "functions", "code", "definitions", "proofs", "s: proof", "s: wrong bodies")
 LISTED = [line.partition(":") for line in (TOP / "crates.txt").read_text().splitlines() if ":" in line]
 # A static library has a word behind its name.
 BELOW = {name.split()[0]: rest.split() for name, _, rest in LISTED}
@@ -64,9 +64,8 @@ def size_rows(crates, times):
         each["all"] = [sum(column) for column in zip(*each.values())]
     for crate, (functions, code, tests, specs, proofs) in each.items():
         proof, test, bodies = (seconds_of(crate, crates, part, times) for part in PARTS)
-        below = f"{from_nothing(crate, times):.0f}" if crate != "all" else ""
         sums = f"{code}{f' + {tests}' * (tests > 0)}", f"{proof}{f' + {test}' * bool(test)}"
-        yield [crate, str(functions), sums[0], str(specs), str(proofs), sums[1], bodies, below]
+        yield [crate, str(functions), sums[0], str(specs), str(proofs), sums[1], bodies]
 
 
 def seconds_of(crate, crates, part, times):
