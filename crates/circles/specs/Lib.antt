@@ -1,4 +1,6 @@
 pub mod Certificate
 pub mod Circles
+pub mod FirstCircles
 pub mod Graph
 pub mod Passed
+pub mod Walks

@@ -6,15 +6,17 @@
 #![tactic(auto)]
 
 mod certificate;
+mod circle;
 mod circles;
 mod edge;
+mod first_circles;
 mod forests;
 mod place;
 mod plain;
 mod search;
+mod walk;
 
+pub use circle::Circle;
 pub use circles::in_circles;
 pub use edge::Edge;
-
-#[cfg(test)]
-mod tests;
+pub use first_circles::find_circles;
