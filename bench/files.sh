@@ -91,6 +91,13 @@ run --lint linted; row 'a folder has the greatest status' "$status $(grep -c unk
 (cd linted && justfiles --lint < /dev/null) > ../output; row 'without a file the justfile here is told of' "$? $(grep -c unknown ../output)" '1 1'
 row 'no file is changed' "$(text linted/justfile)" 'a: b
 .'
+number=100000
+awk -v n=$number 'BEGIN { for (i = 1; i < n; i++) print "r" i ": r" i + 1; print "r" n ":" }' > linted/justfile
+run --lint linted/justfile; row 'many recipes, each of which depends on the next' "$status $(text ../output)" '0 .'
+awk -v n=$number 'BEGIN { for (i = 1; i < n; i++) print "r" i ": r" i + 1; print "r" n ": r1" }' > linted/justfile
+run --lint linted/justfile; row 'a circle of as many' "$status $(grep -c '^error' ../output)" '1 1'
+awk 'BEGIN { for (i = 1; i <= 300; i++) { printf "r%d:", i; for (j = 1; j <= 300; j++) if (j != i) printf " r%d", j; print "" } }' > linted/justfile
+run --lint linted/justfile; row 'recipes each of which depends on all others' "$status $(sed 1q ../output)" '1 error: recipe `r2` has circular dependency `r1 -> r2 -> r1`'
 rm -r linted
 rm -- -- - -n.just
 run; row 'no file, and no justfile here or above' "$status $(cat ../errors)" '3 error: no justfile found'

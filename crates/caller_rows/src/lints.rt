@@ -1,9 +1,9 @@
 //! What is wrong with the names of texts, as rows show it.
 
-use justfile_lint::lint;
-use justfile_problems::Problem;
+use justfile_lint::lint_with_circles;
 use justfile_syntax::ast::Ast;
 use justfile_syntax::parser::{Query, query_root};
+use justfile_token::CompileError;
 use row_notation::{Answer, field_at, push_fault};
 use std::alloc::{AllocError, Global};
 
@@ -29,25 +29,27 @@ impl Query for Problems {
     ghost answers = { λ _ _ _. ⊤ };
 
     fn answer(ast: &mut Ast<'_>, alloc: Global, query: &Self) -> Result<Vec<Shown>, AllocError> {
-        let problems = lint(ast, query.imported, alloc)?;
+        let found = lint_with_circles(ast, query.imported, alloc)?;
         let mut shown = Vec::new(alloc);
-        for problem in &problems {
-            shown.push(show(alloc, problem)?)?;
+        for problem in &found.problems {
+            shown.push(show(alloc, problem.error(alloc)?)?)?;
+        }
+        for circle in &found.circles {
+            shown.push(show(alloc, circle.error(alloc)?)?)?;
         }
         Ok(shown)
     }
 }
 
-/// Returns what rows show of a problem.
-fn show(alloc: Global, problem: &Problem<'_>) -> Result<Shown, AllocError> {
-    let error = problem.error(alloc)?;
+/// Returns what rows show of an error.
+fn show(alloc: Global, error: CompileError<'_>) -> Result<Shown, AllocError> {
     Ok(Shown {
         offset: error.token.offset,
         message: format!(in alloc; "{error}")?,
     })
 }
 
-/// Writes of each problem of a text the offset and the message of its error. The first field tells
+/// Writes of each problem of a text the offset and the message of its error, and then of each circle. The first field tells
 /// whether another file may import the text.
 pub(crate) fn lints(answer: &mut Answer, fields: &[String]) {
     let query = Problems {

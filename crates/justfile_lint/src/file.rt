@@ -1,11 +1,11 @@
 //! The problems of a file.
 ghost use Rattle.std.specs.Prelude.{IfOk, IsPermutation};
 ghost use Rattle.std.specs.List.Sorted.{IsNonDecreasingBy};
-ghost use Rattle.justfile_lint.specs.Lint.{problems_of};
+ghost use Rattle.justfile_lint.specs.Lint.{IsLintOf, problems_of};
 
 use justfile_ast::Ast;
 use justfile_facts::facts_of;
-use justfile_problems::{Problem, problems};
+use justfile_problems::{Circle, Problem, circles_of, problems};
 use std::alloc::{AllocError, Global};
 
 /// Returns the problems of a file, in the order of the text. `imported` is whether another file may
@@ -33,4 +33,38 @@ pub fn lint<'src>(
         &facts.uses,
         &facts.suspects,
     )
+}
+
+/// All that is wrong with a file.
+#[derive(Drop)]
+pub struct Lint<'src> {
+    /// Its problems, in the order of the text.
+    pub problems: Vec<Problem<'src>>,
+    /// Its recipes that depend on themselves, and its variables that are defined in terms of
+    /// themselves.
+    pub circles: Vec<Circle<'src>>,
+}
+
+/// Returns the problems of a file, as `lint` does, and its circles.
+///
+/// # Errors
+///
+/// `AllocError` if memory runs out.
+pub fn lint_with_circles<'src>(
+    ast: &mut Ast<'src>,
+    imported: bool,
+    alloc: Global,
+) -> Result<Lint<'src>, AllocError>
+    ensures { IfOk result (IsLintOf imported ast.old) }
+{
+    let facts = facts_of(&ast.items, &ast.list_features, imported, alloc)?;
+    let problems = problems(
+        alloc,
+        facts.rules,
+        &facts.definitions,
+        &facts.uses,
+        &facts.suspects,
+    )?;
+    let circles = circles_of(alloc, &facts.definitions, &facts.uses)?;
+    Ok(Lint { problems, circles })
 }

@@ -3,4 +3,4 @@
 
 mod lines;
 
-pub use crate::lines::problem_lines;
+pub use crate::lines::{all_lines, circle_lines, problem_lines};

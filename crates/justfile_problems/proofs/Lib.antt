@@ -1,2 +1,4 @@
 pub mod Firsts
 pub mod Known
+pub mod Lasts
+pub mod Rings

@@ -1,3 +1,4 @@
+pub mod Circular
 pub mod Errors
 pub mod Names
 pub mod Problems

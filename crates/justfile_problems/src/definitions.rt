@@ -11,7 +11,7 @@ use justfile_token::Name;
 use justfile_vocabulary::ItemKind;
 
 /// Whether it is the kind of recipes.
-fn is_recipe(kind: ItemKind) -> bool
+pub(crate) fn is_recipe(kind: ItemKind) -> bool
     ensures { result ≡ is_recipe kind }
 {
     match kind {

@@ -3,6 +3,7 @@
 #![tactic(auto)]
 
 mod calls;
+mod circular;
 mod definitions;
 mod error;
 mod facts;
@@ -10,10 +11,13 @@ mod judged;
 mod key;
 mod listing;
 mod names;
+mod nodes;
 mod problem;
+mod steps;
 mod suspects;
 mod uses;
 
+pub use crate::circular::{Circle, circles_of};
 pub use crate::facts::{Definition, Role, Rules, Space, Suspect, SuspectKind, Use};
 pub use crate::listing::problems;
 pub use crate::problem::{Problem, What};

@@ -3,17 +3,20 @@ use Rattle.std.specs.Prelude.{ℕ, Bool, List, IsPermutation}
 use Rattle.std.specs.List.Sorted.{IsNonDecreasingBy}
 use Rattle.justfile_ast.specs.declared.ast.Ast.{Ast}
 use Rattle.justfile_canonical.specs.Formatting.{IsFileOf}
+use Rattle.justfile_problems.specs.declared.circular.Circle.{Circle}
 use Rattle.justfile_problems.specs.declared.problem.Problem.{Problem}
-use Rattle.justfile_problem_lines.specs.Lines.{TellProblems}
-use Rattle.justfile_lint.specs.Lint.{problems_of}
+use Rattle.justfile_problem_lines.specs.Lines.{TellAll}
+use Rattle.justfile_lint.specs.Lint.{AreCirclesIn, problems_of}
 use Rattle.justfile_lint.specs.Names.{may_be_imported}
 
--- the lines tell all that is wrong with a file, in the order of the text
+-- the lines tell all that is wrong with a file, in the order of the text, and then its circles
 pub record TellFile (imported : Bool) (ast : Ast) (lines : List ℕ) : Type 0 where
   pub problems : List Problem
   pub all : IsPermutation (problems_of imported ast) problems
   pub in_order : IsNonDecreasingBy (λ (p : Problem). p.token.offset) problems
-  pub told : TellProblems problems lines
+  pub circles : List Circle
+  pub are : AreCirclesIn ast circles
+  pub told : TellAll problems circles lines
 
 -- the text is a justfile, and the lines tell all that is wrong with it
 pub record TellText (path source lines : List ℕ) : Type 0 where

@@ -6,12 +6,12 @@ ghost use Rattle.justfiles.specs.Linted.{TellFile, TellText};
 use justfile_ast::Ast;
 use justfile_canonical::fault::FormatFault;
 use justfile_canonical::formatting::parse;
-use justfile_lint::{lint, may_be_imported};
-use justfile_problem_lines::problem_lines;
+use justfile_lint::{lint_with_circles, may_be_imported};
+use justfile_problem_lines::all_lines;
 use std::alloc::{AllocError, Global};
 
 /// Returns the lines that tell what is wrong with the names of the text of a file at this path, in
-/// the order of the text. There are none if nothing is wrong.
+/// the order of the text, and then its circles. There are none if nothing is wrong.
 ///
 /// # Errors
 ///
@@ -28,6 +28,6 @@ pub fn lint_text(alloc: Global, path: &str, source: &str) -> Result<String, Form
 fn file_lines(ast: &mut Ast<'_>, imported: bool, alloc: Global) -> Result<String, AllocError>
     ensures { IfOk result (λ lines. TellFile imported ast.old (string_bytes lines)) }
 {
-    let found = lint(ast, imported, alloc)?;
-    problem_lines(alloc, &found)
+    let found = lint_with_circles(ast, imported, alloc)?;
+    all_lines(alloc, &found.problems, &found.circles)
 }
