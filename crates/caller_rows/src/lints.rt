@@ -49,8 +49,8 @@ fn show(alloc: Global, error: CompileError<'_>) -> Result<Shown, AllocError> {
     })
 }
 
-/// Writes of each problem of a text the offset and the message of its error, and then of each circle. The first field tells
-/// whether another file may import the text.
+/// Writes of each problem of a text, and then of each circle, the offset and the message of its error.
+/// The first field tells whether another file may import the text.
 pub(crate) fn lints(answer: &mut Answer, fields: &[String]) {
     let query = Problems {
         imported: field_at(fields, 0) == "imported",

@@ -11,7 +11,7 @@ use Rattle.justfile_facts.specs.Definitions.{item_definitions}
 use Rattle.justfile_facts.specs.Rules.{rules_of}
 use Rattle.justfile_facts.specs.Suspects.{item_suspects, noted}
 use Rattle.justfile_facts.specs.Uses.{item_uses}
-use Rattle.justfile_lint.specs.declared.file.Lint.{Lint}
+use Rattle.justfile_lint.specs.declared.file.Findings.{Findings}
 
 -- all that is wrong with a file; `imported` is whether another file may import it
 abbrev pub problems_of : (imported : Bool) → Ast → List Problem
@@ -24,7 +24,7 @@ abbrev pub AreCirclesIn : Ast → List Circle → Type 0
 AreCirclesIn ast = AreCirclesOf (flat_map item_definitions ast.items.items) (flat_map item_uses ast.items.items)
 
 -- all problems, in the order of the text, and the circles
-pub record IsLintOf (imported : Bool) (ast : Ast) (found : Lint) : Type 0 where
+pub record AreFindingsOf (imported : Bool) (ast : Ast) (found : Findings) : Type 0 where
   pub all : IsPermutation (problems_of imported ast) found.problems.items
   pub in_order : IsNonDecreasingBy (λ p. p.token.offset) found.problems.items
   pub circles : AreCirclesIn ast found.circles.items

@@ -1,7 +1,7 @@
 //! The problems of a file.
 ghost use Rattle.std.specs.Prelude.{IfOk, IsPermutation};
 ghost use Rattle.std.specs.List.Sorted.{IsNonDecreasingBy};
-ghost use Rattle.justfile_lint.specs.Lint.{IsLintOf, problems_of};
+ghost use Rattle.justfile_lint.specs.Lint.{AreFindingsOf, problems_of};
 
 use justfile_ast::Ast;
 use justfile_facts::facts_of;
@@ -37,7 +37,7 @@ pub fn lint<'src>(
 
 /// All that is wrong with a file.
 #[derive(Drop)]
-pub struct Lint<'src> {
+pub struct Findings<'src> {
     /// Its problems, in the order of the text.
     pub problems: Vec<Problem<'src>>,
     /// Its recipes that depend on themselves, and its variables that are defined in terms of
@@ -54,8 +54,8 @@ pub fn lint_with_circles<'src>(
     ast: &mut Ast<'src>,
     imported: bool,
     alloc: Global,
-) -> Result<Lint<'src>, AllocError>
-    ensures { IfOk result (IsLintOf imported ast.old) }
+) -> Result<Findings<'src>, AllocError>
+    ensures { IfOk result (AreFindingsOf imported ast.old) }
 {
     let facts = facts_of(&ast.items, &ast.list_features, imported, alloc)?;
     let problems = problems(
@@ -66,5 +66,5 @@ pub fn lint_with_circles<'src>(
         &facts.suspects,
     )?;
     let circles = circles_of(alloc, &facts.definitions, &facts.uses)?;
-    Ok(Lint { problems, circles })
+    Ok(Findings { problems, circles })
 }

@@ -4,5 +4,5 @@
 mod file;
 mod name;
 
-pub use crate::file::{Lint, lint, lint_with_circles};
+pub use crate::file::{Findings, lint, lint_with_circles};
 pub use crate::name::may_be_imported;

@@ -41,7 +41,13 @@ impl<'src> Nodes<'src> {
     pub(crate) fn last(&self, space: Space, name: &'src str) -> Option<Node>
         ensures { result ≡ node_of self.now space name.now }
     {
-        self.table.get(&Key { space, scope: 0, name }).copied()
+        self.table
+            .get(&Key {
+                space,
+                scope: 0,
+                name,
+            })
+            .copied()
     }
 }
 

@@ -8,9 +8,23 @@ use Rattle.justfile_files.specs.Formatter.{IfRejected, IsExhausted}
 use Rattle.justfile_files.specs.Visible.{visible_lines}
 use Rattle.justfile_files.specs.declared.formatter.Refusal.{Refusal}
 use Rattle.justfile_files.specs.declared.formatter.Refusal.TheVariants.{Exhausted, Rejected}
+use Rattle.justfile_lint.specs.Lint.{AreFindingsOf}
 use Rattle.justfile_lint.specs.Names.{may_be_imported}
+use Rattle.justfile_lint.specs.declared.file.Findings.{Findings}
+use Rattle.justfile_problem_lines.specs.Lines.{TellAll}
+use Rattle.justfile_problems.specs.declared.circular.Circle.{Circle}
+use Rattle.justfile_problems.specs.declared.problem.Problem.{Problem}
 use Rattle.justfiles.specs.Justfile.{FindsShown, IsRejected}
 use Rattle.justfiles.specs.Linted.{TellFile, TellText}
+
+-- what was found is told
+pub file_told : {E : Type 0} (r : Result (String Global) E) (imported : Bool) (ast : Ast) (found : Findings) (problems : List Problem) (circles : List Circle) → problems ≡ found.problems.items
+    → circles ≡ found.circles.items → AreFindingsOf imported ast found → IfOk r (λ s. TellAll problems circles (string_bytes s)) → IfOk r (λ s. TellFile imported ast (string_bytes s))
+file_told (Ok s) imported ast found problems circles e f are told =
+    let P : List Problem → Type 0 = λ l. TellAll l circles (string_bytes s) in
+    let Q : List Circle → Type 0 = λ l. TellAll found.problems.items l (string_bytes s) in
+    record { problems = found.problems.items; all = are.all; in_order = are.in_order; circles = found.circles.items; are = are.circles; told = subst Q f (subst P e told) }
+file_told (Err x) imported ast found problems circles e f are told = tt
 
 pub text_told : (path source lines : List ℕ) (imported : Bool) (ast : Ast) → imported ≡ may_be_imported path → IsFileOf source ast → TellFile imported ast lines → TellText path source lines
 text_told path source lines imported ast is parsed told = record { ast = ast; parsed = parsed; told = subst (λ (b : Bool). TellFile b ast lines) is told }
