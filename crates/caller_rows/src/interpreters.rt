@@ -16,7 +16,7 @@ pub(crate) fn push_default(answer: &mut Answer) {
 fn push_script(interpreter: &Interpreter<String>, answer: &mut Answer) {
     answer.push(interpreter.command.as_str());
     answer.push_number(interpreter.arguments.len());
-    answer.push_made(interpreter.to_string(answer.alloc()));
+    answer.push_display(interpreter);
     push_copy(interpreter, interpreter.clone(answer.alloc()), answer);
 }
 
@@ -44,7 +44,7 @@ pub(crate) fn push_interpreter(answer: &mut Answer, text: &str) {
 }
 
 fn push_compared(interpreter: &Interpreter<&str>, answer: &mut Answer) {
-    answer.push_made(interpreter.to_string(answer.alloc()));
+    answer.push_display(interpreter);
     let bare = Interpreter {
         command: interpreter.command,
         arguments: Vec::new(answer.alloc()),

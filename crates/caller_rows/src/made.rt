@@ -168,7 +168,7 @@ fn push_with_keys<'src>(
 /// Writes an attribute, or why there is none.
 fn push_result(answer: &mut Answer, text: &str, made: CompileResult<'_, Attribute<'_>>) {
     match made {
-        Ok(attribute) => answer.push_made(attribute.to_string(answer.alloc())),
+        Ok(attribute) => answer.push_display(&attribute),
         Err(fault) => push_fault(answer, text, &fault),
     }
 }

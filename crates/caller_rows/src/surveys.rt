@@ -25,7 +25,7 @@ fn push_survey(answer: &mut Answer, survey: &Survey) {
 /// is private.
 fn push_item(answer: &mut Answer, item: &SurveyedItem) {
     let mut shown = Text::new(answer.alloc());
-    shown.put_made(item.kind.to_string(answer.alloc()));
+    shown.put_display(&item.kind);
     shown.put(" ");
     shown.put(item.name.as_str());
     put_span(&mut shown, " ", item.span);

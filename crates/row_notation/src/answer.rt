@@ -2,6 +2,7 @@
 
 use crate::text::Text;
 use std::alloc::{AllocError, Global};
+use std::fmt::{Debug, Display};
 
 /// Fields separated by blanks. Each has one notation, so equal answers have equal texts.
 #[derive(Drop)]
@@ -73,6 +74,16 @@ impl Answer {
             Ok(field) => self.push(field.as_str()),
             Err(_) => self.notation.fail(),
         }
+    }
+
+    /// Appends the text that a value displays as a field.
+    pub fn push_display<T: Display>(&mut self, value: &T) {
+        self.push_made(value.to_string(self.alloc()));
+    }
+
+    /// Appends the text that `Debug` writes of a value as a field.
+    pub fn push_debug<T: Debug>(&mut self, value: &T) {
+        self.push_made(format!(in self.alloc(); "{value:?}"));
     }
 
     /// Appends a text as a field.

@@ -4,6 +4,7 @@
 
 mod answer;
 mod copy;
+mod each;
 mod field_reader;
 mod fields;
 mod literal;
@@ -16,6 +17,7 @@ mod text;
 
 pub use crate::answer::Answer;
 pub use crate::copy::push_copy;
+pub use crate::each::push_each_debug;
 pub use crate::fields::{
     field_at, indentation_at, indentation_of, is_indentation, is_number, number_at,
 };

@@ -5,6 +5,6 @@ use justfile_token::StringKind;
 
 /// Writes the delimiter of a literal, and whether it is tripled.
 pub fn push_string_kind(answer: &mut Answer, kind: StringKind) {
-    answer.push_made(format!(in answer.alloc(); "{:?}", kind.delimiter));
+    answer.push_debug(&kind.delimiter);
     answer.push(if kind.indented { "tripled" } else { "single" });
 }

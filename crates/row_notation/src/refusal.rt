@@ -1,6 +1,7 @@
 //! Why texts are rejected, and where.
 
 use crate::answer::Answer;
+use crate::each::push_each_debug;
 use justfile_token::{CompileError, CompileErrorKind, Fault, Name, StringKind, StringLiteral};
 use justfile_vocabulary::TokenKind;
 use std::alloc::{AllocError, Global};
@@ -189,8 +190,5 @@ fn are_equal(one: &Result<String, AllocError>, other: &Result<String, AllocError
 
 /// Writes the names of kinds of tokens.
 fn push_kinds(answer: &mut Answer, kinds: &[TokenKind]) {
-    for kind in kinds {
-        let alloc = answer.alloc();
-        answer.push_made(format!(in alloc; "{kind:?}"));
-    }
+    push_each_debug(kinds.iter(), answer);
 }

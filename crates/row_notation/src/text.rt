@@ -1,6 +1,7 @@
 //! Texts written piece by piece.
 
 use std::alloc::{AllocError, Global};
+use std::fmt::{Debug, Display};
 
 /// A text, and whether memory ran out for a piece of it. So the methods that append pieces return
 /// no error; `finish` does.
@@ -47,7 +48,17 @@ impl Text {
 
     /// Appends a number.
     pub fn put_number(&mut self, number: usize) {
-        self.put_made(number.to_string(self.alloc));
+        self.put_display(&number);
+    }
+
+    /// Appends the text that a value displays.
+    pub fn put_display<T: Display>(&mut self, value: &T) {
+        self.put_made(value.to_string(self.alloc));
+    }
+
+    /// Appends the text that `Debug` writes of a value.
+    pub fn put_debug<T: Debug>(&mut self, value: &T) {
+        self.put_made(format!(in self.alloc; "{value:?}"));
     }
 
     /// Appends a piece, or records that memory ran out for it.

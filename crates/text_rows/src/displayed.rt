@@ -14,10 +14,10 @@ use std::alloc::{AllocError, Global};
 
 /// Writes a number of things with their noun, with an irregular one, and the noun alone.
 pub(crate) fn count(answer: &mut Answer, fields: &[String]) {
-    let (alloc, number) = (answer.alloc(), number_at(fields, 0) as usize);
-    answer.push_made(Count::numbered("dog", number).to_string(alloc));
-    answer.push_made(Count::numbered_irregular("foot", "feet", number).to_string(alloc));
-    answer.push_made(Count::unnumbered("dog", number).to_string(alloc));
+    let number = number_at(fields, 0) as usize;
+    answer.push_display(&Count::numbered("dog", number));
+    answer.push_display(&Count::numbered_irregular("foot", "feet", number));
+    answer.push_display(&Count::unnumbered("dog", number));
 }
 
 /// Returns the characters of a text.
@@ -38,8 +38,8 @@ pub(crate) fn alternatives(answer: &mut Answer, text: &str) {
 }
 
 fn push_alternatives(answer: &mut Answer, items: &[char]) {
-    answer.push_made(List::or(items).to_string(answer.alloc()));
-    answer.push_made(List::or_ticked(items).to_string(answer.alloc()));
+    answer.push_display(&List::or(items));
+    answer.push_display(&List::or_ticked(items));
 }
 
 /// The features that need the setting `lists`.
@@ -66,7 +66,7 @@ static FEATURES: &[ListFeature] = &[
 /// Writes what messages say of each feature, and whether it is a function.
 pub(crate) fn list_features(answer: &mut Answer) {
     for feature in FEATURES {
-        answer.push_made(feature.to_string(answer.alloc()));
+        answer.push_display(feature);
         answer.push_if("function", feature.function());
     }
 }
@@ -89,7 +89,7 @@ static KINDS: &[ItemKind] = &[
 pub(crate) fn item_kinds(answer: &mut Answer) {
     for kind in KINDS {
         answer.push(kind.article());
-        answer.push_made(kind.to_string(answer.alloc()));
+        answer.push_display(kind);
     }
 }
 
@@ -107,10 +107,10 @@ static JOINING: &[ListOperator] = &[ListOperator::Concatenate, ListOperator::Joi
 /// Writes the operators that compare, and those that join, each with what it puts between.
 pub(crate) fn operators(answer: &mut Answer) {
     for operator in CONDITIONAL {
-        answer.push_made(operator.to_string(answer.alloc()));
+        answer.push_display(operator);
     }
     for operator in JOINING {
-        answer.push_made(operator.to_string(answer.alloc()));
+        answer.push_display(operator);
         answer.push(operator.separator());
     }
 }
@@ -170,7 +170,7 @@ fn push_padded(answer: &mut Answer, padding: &str, names: &[Name<'_>]) {
 /// Writes a kind of tokens that no token has, and one with a padding, which is ignored.
 pub(crate) fn unpadded(answer: &mut Answer) {
     let (unspecified, comma) = (TokenKind::Unspecified, TokenKind::Comma);
-    answer.push_made(unspecified.to_string(answer.alloc()));
+    answer.push_display(&unspecified);
     answer.push_made(format!(in answer.alloc(); "{comma:>9}"));
 }
 
@@ -218,7 +218,7 @@ fn push_marks(
 }
 
 fn push_literal(answer: &mut Answer, literal: &StringLiteral<'_>) {
-    answer.push_made(literal.to_string(answer.alloc()));
+    answer.push_display(literal);
     push_copy(literal, literal.clone(answer.alloc()), answer);
     match literal.clone(answer.alloc()) {
         Ok(copy) => push_apart(answer, literal, &copy),
@@ -264,7 +264,7 @@ fn push_excerpt_if(answer: &mut Answer, token: Option<&Token<'_>>) {
 }
 
 fn push_excerpt(answer: &mut Answer, token: Token<'_>) {
-    answer.push_made(token.to_string(answer.alloc()));
+    answer.push_display(&token);
 }
 
 /// Writes the sign between two versions.

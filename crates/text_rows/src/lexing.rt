@@ -60,7 +60,7 @@ fn push_token(answer: &mut Answer, token: &Token<'_>) {
     let kind = token.kind;
     let lexeme = token.lexeme();
     let mut shown = Text::new(answer.alloc());
-    shown.put_made(format!(in answer.alloc(); "{kind:?}"));
+    shown.put_debug(&kind);
     if !is_usual(kind, lexeme) {
         shown.put("‹");
         shown.put(lexeme);
@@ -101,7 +101,7 @@ fn push_tokens(answer: &mut Answer, text: &str, tokens: &[Token<'_>]) {
 fn push_error(answer: &mut Answer, error: &CompileError<'_>) {
     let token = error.token;
     answer.push_made(kind_of(answer.alloc(), &error.kind));
-    answer.push_made(format!(in answer.alloc(); "{:?}", token.kind));
+    answer.push_debug(&token.kind);
     answer.push_number(token.offset);
     answer.push_number(token.line);
     answer.push_number(token.column);
@@ -111,7 +111,7 @@ fn push_error(answer: &mut Answer, error: &CompileError<'_>) {
 /// Writes the texts that the kinds of tokens display in messages.
 fn push_kinds(answer: &mut Answer, tokens: &[Token<'_>]) {
     for token in tokens {
-        answer.push_made(token.kind.to_string(answer.alloc()));
+        answer.push_display(&token.kind);
     }
 }
 
@@ -126,7 +126,7 @@ fn push_significant(answer: &mut Answer, tokens: &[Token<'_>]) {
 
 fn push_table(answer: &mut Answer, table: &[(Token<'_>, bool)]) {
     for (token, glued) in table {
-        answer.push_made(format!(in answer.alloc(); "{:?}", token.kind));
+        answer.push_debug(&token.kind);
         answer.push_if("glued", *glued);
     }
 }
@@ -191,7 +191,7 @@ pub(crate) fn lex(answer: &mut Answer, word: Word, text: &str) {
 /// Writes the number of a text's tokens, or the offset at which it is rejected.
 pub(crate) fn push_token_count(answer: &mut Answer, text: &str) {
     match token_count(answer.alloc(), text) {
-        Ok(count) => answer.push_made(count.to_string(answer.alloc())),
+        Ok(count) => answer.push_display(&count),
         Err(_) => answer.fail(),
     }
 }

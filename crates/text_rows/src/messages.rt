@@ -120,8 +120,7 @@ fn are_equal(one: usize, other: usize) -> bool {
 
 /// Writes the message of an error at a token.
 fn push_message<'src>(answer: &mut Answer, token: &Token<'src>, kind: CompileErrorKind<'src>) {
-    let alloc = answer.alloc();
-    answer.push_made(token.error(kind).to_string(alloc));
+    answer.push_display(&token.error(kind));
 }
 
 /// Writes the message of the error with this word, or `none`. Writes `unequal` if it isn't equal to

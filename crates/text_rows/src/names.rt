@@ -10,7 +10,7 @@ pub(crate) fn attribute_kind(answer: &mut Answer, text: &str) {
     let Some(kind) = AttributeKind::from_name(text) else {
         return answer.push("none");
     };
-    answer.push_made(format!(in answer.alloc(); "{:?}", kind));
+    answer.push_debug(&kind);
     answer.push(kind.name());
     answer.push_if("enabler", kind.is_enabler());
     answer.push_if("keys", kind.accepts_keyword_arguments());
@@ -22,8 +22,8 @@ pub(crate) fn signal(answer: &mut Answer, text: &str) {
     let Some(signal) = Signal::from_name(text) else {
         return answer.push("none");
     };
-    answer.push_made(format!(in answer.alloc(); "{:?}", signal));
-    answer.push_made(signal.to_string(answer.alloc()))
+    answer.push_debug(&signal);
+    answer.push_display(&signal)
 }
 
 /// Makes the switch of this form. A short one has the first character of the name.

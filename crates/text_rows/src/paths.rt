@@ -18,7 +18,7 @@ pub(crate) fn namepath(answer: &mut Answer, text: &str) {
 }
 
 fn push_path<'row>(answer: &mut Answer, path: &Namepath<'row>, names: &[Name<'row>]) {
-    answer.push_made(path.to_string(answer.alloc()));
+    answer.push_display(path);
     answer.push_number(path.components());
     answer.push_if("apart", !has_names(path, names));
     push_copy(path, path.clone(answer.alloc()), answer);
@@ -89,7 +89,7 @@ pub(crate) fn modulepath(answer: &mut Answer, text: &str) {
 
 fn push_modules(answer: &mut Answer, modules: &Modulepath) {
     let alloc = answer.alloc();
-    answer.push_made(modules.to_string(alloc));
+    answer.push_display(modules);
     answer.push_if("root", *modules == Modulepath::new(alloc));
     push_copy(modules, modules.clone(alloc), answer);
     match lengthened(alloc, modules) {
@@ -99,7 +99,7 @@ fn push_modules(answer: &mut Answer, modules: &Modulepath) {
 }
 
 fn push_longer(answer: &mut Answer, modules: &Modulepath, longer: &Modulepath) {
-    answer.push_made(longer.to_string(answer.alloc()));
+    answer.push_display(longer);
     answer.push_if("changed", *modules == *longer);
     let is_last = match longer.names().last() {
         Some(name) => name.as_str() == "z",

@@ -37,10 +37,10 @@ pub(crate) fn unindents(answer: &mut Answer, text: &str) {
 pub(crate) fn version(answer: &mut Answer, text: &str) {
     match text.parse::<Version>() {
         Ok(version) => {
-            answer.push_made(version.to_string(answer.alloc()));
-            answer.push_made(version.major.to_string(answer.alloc()));
-            answer.push_made(version.minor.to_string(answer.alloc()));
-            answer.push_made(version.patch.to_string(answer.alloc()))
+            answer.push_display(&version);
+            answer.push_display(&version.major);
+            answer.push_display(&version.minor);
+            answer.push_display(&version.patch)
         }
         Err(message) => answer.push(message),
     }
@@ -49,7 +49,7 @@ pub(crate) fn version(answer: &mut Answer, text: &str) {
 /// Writes the indentation in a text, or why it isn't one.
 pub(crate) fn indentation(answer: &mut Answer, text: &str) {
     match text.parse::<Indentation>() {
-        Ok(indentation) => answer.push_made(indentation.to_string(answer.alloc())),
+        Ok(indentation) => answer.push_display(&indentation),
         Err(message) => answer.push(message),
     }
 }
@@ -59,8 +59,8 @@ pub(crate) fn keyword(answer: &mut Answer, text: &str) {
     let Some(keyword) = Keyword::from_lexeme(text) else {
         return answer.push("none");
     };
-    answer.push_made(format!(in answer.alloc(); "{:?}", keyword));
-    answer.push_made(keyword.to_string(answer.alloc()));
+    answer.push_debug(&keyword);
+    answer.push_display(&keyword);
     answer.push_if(
         "unspelled",
         keyword.lexeme() != text || !keyword.spells(text),
@@ -70,7 +70,7 @@ pub(crate) fn keyword(answer: &mut Answer, text: &str) {
 /// Writes the class of a byte.
 pub(crate) fn class(answer: &mut Answer, text: &str) {
     match text.parse::<u8>() {
-        Ok(byte) => answer.push_made(format!(in answer.alloc(); "{:?}", byte_class(byte))),
+        Ok(byte) => answer.push_debug(&byte_class(byte)),
         Err(_) => answer.push("none"),
     }
 }
@@ -109,8 +109,8 @@ pub(crate) fn opens(answer: &mut Answer, text: &str) {
     };
     push_string_kind(answer, kind);
     answer.push(kind.delimiter());
-    answer.push_made(format!(in answer.alloc(); "{:?}", kind.token_kind()));
-    answer.push_made(format!(in answer.alloc(); "{:?}", kind.unterminated_error_kind()));
+    answer.push_debug(&kind.token_kind());
+    answer.push_debug(&kind.unterminated_error_kind());
     answer.push_if("escapes", kind.processes_escape_sequences());
     answer.push_if("length", kind.delimiter_len() != kind.delimiter().len());
     answer.push_if("opening", StringKind::of_opening(text.as_bytes()) != kind);
