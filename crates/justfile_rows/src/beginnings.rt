@@ -4,18 +4,19 @@
 use crate::expansion::Expansion;
 use crate::files::parse;
 use crate::printing::settles;
+use crate::question::{Question, push_parsed};
 use justfile_syntax::ast::Ast;
 use justfile_syntax::compile_error_kind::CompileErrorKind;
 use justfile_syntax::fault::Fault;
 use justfile_syntax::indentation::Indentation;
 use justfile_syntax::parser::RECURSION_LIMIT;
-use row_notation::{Answer, Text, indentation_of, push_fault};
+use row_notation::{Answer, Text, indentation_of};
 
 /// The indentations at which the printed text has to settle.
 const INDENTATIONS: [&str; 3] = ["    ", "  ", "\t"];
 
 /// Writes where the printed text of a file doesn't settle, if the file can be printed.
-fn settles_everywhere(ast: &mut Ast<'_>, answer: &mut Answer) {
+pub(crate) fn settles_everywhere(ast: &mut Ast<'_>, answer: &mut Answer) {
     if ast.printable() {
         for blanks in INDENTATIONS {
             settles_at(ast, answer, indentation_of(blanks));
@@ -32,7 +33,7 @@ fn settles_at(ast: &Ast<'_>, answer: &mut Answer, indentation: Indentation) {
 }
 
 /// Whether a fault is one of the text, and not of the program or the machine.
-fn is_of_text(fault: &Fault<'_>) -> bool {
+pub(crate) fn is_of_text(fault: &Fault<'_>) -> bool {
     match fault {
         Fault::Compile(error) => !matches!(error.kind, CompileErrorKind::Internal { .. }),
         _ => false,
@@ -41,18 +42,8 @@ fn is_of_text(fault: &Fault<'_>) -> bool {
 
 /// Writes what is wrong with the result for a text, and returns whether it is a file.
 fn is_file(answer: &mut Answer, text: &str) -> bool {
-    match parse(answer.alloc(), &Expansion::Unchanged, RECURSION_LIMIT, text) {
-        Ok(mut ast) => {
-            settles_everywhere(&mut ast, answer);
-            true
-        }
-        Err(fault) => {
-            if !is_of_text(&fault) {
-                push_fault(answer, text, &fault);
-            }
-            false
-        }
-    }
+    let parsed = parse(answer.alloc(), &Expansion::Unchanged, RECURSION_LIMIT, text);
+    push_parsed(parsed, answer, text, Question::Beginning, &[])
 }
 
 /// Writes what is wrong with the results for a text's beginnings, and then whether the text is a

@@ -1,29 +1,29 @@
 //! Calls that no text leads to: files of modules.
 
-use justfile_syntax::ast::Ast;
+use crate::question::{Question, push_parsed};
 use justfile_syntax::expander::Unchanged;
 use justfile_syntax::lexer::Lexer;
 use justfile_syntax::namepath::Namepath;
 use justfile_syntax::numerator::Numerator;
 use justfile_syntax::parser::{Parser, RECURSION_LIMIT};
 use justfile_syntax::version::Version;
-use row_items::items::push_items;
-use row_notation::{Answer, field_at, path_of, push_fault};
+use row_notation::{Answer, field_at, path_of};
 
 /// Parses the tokens of a text as the file of the module with a path. Writes the file's module, its
 /// working directory and its items.
 pub(crate) fn in_module(answer: &mut Answer, fields: &[String]) {
     match path_of(answer.alloc(), field_at(fields, 0)) {
-        Ok(path) => push_parsed(answer, &path, field_at(fields, 1)),
+        Ok(path) => push_of_path(answer, &path, field_at(fields, 1)),
         Err(_) => answer.fail(),
     }
 }
 
-fn push_parsed(answer: &mut Answer, path: &Namepath<'_>, text: &str) {
+/// Parses the tokens of a text as the file of the module with a path.
+fn push_of_path(answer: &mut Answer, path: &Namepath<'_>, text: &str) {
     let Ok(tokens) = Lexer::lex(answer.alloc(), "justfile", text) else {
         return answer.push("none");
     };
-    match Parser::parse(
+    let parsed = Parser::parse(
         answer.alloc(),
         3,
         &[],
@@ -34,14 +34,6 @@ fn push_parsed(answer: &mut Answer, path: &Namepath<'_>, text: &str) {
         &Unchanged,
         Version::CURRENT,
         RECURSION_LIMIT,
-    ) {
-        Ok(mut ast) => push_file(&mut ast, answer),
-        Err(fault) => push_fault(answer, text, &fault),
-    }
-}
-
-fn push_file(ast: &mut Ast<'_>, answer: &mut Answer) {
-    answer.push_made(ast.module_path.to_string(answer.alloc()));
-    answer.push(ast.working_directory.as_str());
-    push_items(&ast.items, answer);
+    );
+    push_parsed(parsed, answer, text, Question::InModule, &[]);
 }

@@ -3,6 +3,7 @@
 use crate::beginnings::beginnings;
 use crate::expansion::Expansion;
 use crate::printing::prints;
+use crate::question::{Question, push_parsed};
 use crate::resolution::resolves;
 use crate::word::Word;
 use justfile_syntax::ast::Ast;
@@ -10,10 +11,9 @@ use justfile_syntax::fault::{CompileResult, Fault};
 use justfile_syntax::format::own_indentation;
 use justfile_syntax::indentation::Indentation;
 use justfile_syntax::numerator::{Number, Numerator};
-use justfile_syntax::parser::{Parser, RECURSION_LIMIT};
+use justfile_syntax::parser::{Parser, RECURSION_LIMIT, release};
 use justfile_syntax::source::Source;
 use justfile_syntax::version::Version;
-use row_items::copies::copies_items;
 use row_items::items::{WORKING_DIRECTORY, file};
 use row_items::items_part::{ItemsPart, push_of_items};
 use row_items::names::{features, unstable};
@@ -22,6 +22,7 @@ use row_items::recipes::{FILE_DEPTH, IMPORT_OFFSETS, RecipePart};
 use row_notation::{
     Answer, Text, field_at, indentation_at, number_at, push_expected, push_fault, push_message,
 };
+use row_parts::values::ValueForm;
 use std::alloc::Global;
 
 /// Parses a text under a limit of depth, with numbers from a numerator.
@@ -91,8 +92,8 @@ fn items_part(word: Word, fields: &[String]) -> ItemsPart {
         Word::Enabled => ItemsPart::Enabled,
         Word::Expressions => ItemsPart::Expressions,
         Word::Keys => ItemsPart::Keys,
-        Word::Literal => ItemsPart::Literal,
-        Word::Expands | Word::Value => ItemsPart::Value,
+        Word::Literal => ItemsPart::Value(ValueForm::Literal),
+        Word::Expands | Word::Value => ItemsPart::Value(ValueForm::Parts),
         Word::Orders => ItemsPart::Orders,
         Word::Parts => ItemsPart::Parts,
         Word::References => ItemsPart::References,
@@ -126,7 +127,7 @@ fn indented(ast: &Ast<'_>, answer: &mut Answer) {
 /// Writes the indentation that a file sets, or `none`.
 fn push_indentation(ast: &Ast<'_>, answer: &mut Answer) {
     match ast.indentation() {
-        Some(indentation) => answer.push_made(indentation.to_string(answer.alloc())),
+        Some(indentation) => answer.push_display(&indentation),
         None => answer.push("none"),
     }
 }
@@ -137,7 +138,7 @@ fn push_printed(ast: &mut Ast<'_>, answer: &mut Answer, word: Word, fields: &[St
     match word {
         Word::Copies => {
             copies(ast, answer, indentation);
-            copies_items(&ast.items, answer);
+            push_of_items(&ast.items, answer, ItemsPart::Copies);
         }
         Word::ExpandsTo => push_value_and_text(ast, answer),
         Word::PrintsItem => prints_item(ast, answer, indentation),
@@ -156,13 +157,18 @@ fn indentation_for(word: Word, fields: &[String]) -> Indentation {
 
 /// Writes the parts of the first value of a file, and the file's printed text.
 fn push_value_and_text(ast: &Ast<'_>, answer: &mut Answer) {
-    push_of_items(&ast.items, answer, ItemsPart::Value);
+    push_of_items(&ast.items, answer, ItemsPart::Value(ValueForm::Parts));
     copies(ast, answer, Indentation::default());
 }
 
 /// Writes what a row's word asks for about a file, and also about its copy if that differs. For
 /// printing there is no copy: the file is printed and parsed again.
-fn push_file_and_copy(ast: &mut Ast<'_>, answer: &mut Answer, word: Word, fields: &[String]) {
+pub(crate) fn push_file_and_copy(
+    ast: &mut Ast<'_>,
+    answer: &mut Answer,
+    word: Word,
+    fields: &[String],
+) {
     let mut found = Answer::new(answer.alloc());
     push_file(ast, &mut found, word, fields);
     answer.push_all(&found);
@@ -185,23 +191,28 @@ fn is_copied(word: Word) -> bool {
 /// Writes what a row's word asks for about a copy of a file.
 fn push_copy(ast: &Ast<'_>, answer: &mut Answer, word: Word, fields: &[String]) {
     match ast.clone(answer.alloc()) {
-        Ok(mut copy) => push_file(&mut copy, answer, word, fields),
+        Ok(mut copy) => {
+            push_file(&mut copy, answer, word, fields);
+            release(copy);
+        }
         Err(_) => answer.fail(),
     }
 }
 
 /// Writes what a row's word asks for about its text. For `numbers`, first writes the next numbers
 /// of a binding and of a recipe.
-fn push_parsed(answer: &mut Answer, word: Word, fields: &[String]) {
+fn push_text(answer: &mut Answer, word: Word, fields: &[String]) {
     let mut numerator = numerator_of(word, fields);
     let text = text_of(word, fields);
-    let expansion = expansion_of(word, fields);
     let mut found = Answer::new(answer.alloc());
-    let limit = limit_of(word, fields);
-    match parse_from(answer.alloc(), &mut numerator, &expansion, limit, text) {
-        Ok(mut ast) => push_file_and_copy(&mut ast, &mut found, word, fields),
-        Err(fault) => push_why(&mut found, word, text, &fault),
-    }
+    let parsed = parse_from(
+        answer.alloc(),
+        &mut numerator,
+        &expansion_of(word, fields),
+        limit_of(word, fields),
+        text,
+    );
+    push_parsed(parsed, &mut found, text, Question::Word(word), fields);
     if word == Word::Numbers {
         push_next(answer, &mut numerator);
     }
@@ -209,7 +220,7 @@ fn push_parsed(answer: &mut Answer, word: Word, fields: &[String]) {
 }
 
 /// Writes why there is no file, in the form that a row's word asks for.
-fn push_why(answer: &mut Answer, word: Word, text: &str, fault: &Fault<'_>) {
+pub(crate) fn push_why(answer: &mut Answer, word: Word, text: &str, fault: &Fault<'_>) {
     match word {
         Word::Expected => push_expected(answer, text, fault),
         Word::Message => push_message(answer, text, fault),
@@ -296,6 +307,6 @@ pub(crate) fn push_fields(answer: &mut Answer, word: Word, fields: &[String]) {
     } else if word == Word::Resolves {
         resolves(answer, fields);
     } else {
-        push_parsed(answer, word, fields);
+        push_text(answer, word, fields);
     }
 }

@@ -19,6 +19,7 @@ mod expansion;
 mod fields;
 mod files;
 mod printing;
+mod question;
 mod resolution;
 mod roots;
 mod scarce;

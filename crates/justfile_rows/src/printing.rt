@@ -5,6 +5,7 @@ use crate::expansion::Expansion;
 use crate::files::parse;
 use justfile_syntax::ast::Ast;
 use justfile_syntax::indentation::Indentation;
+use justfile_syntax::parser::release;
 use row_items::printing::{prints_once, push_printed_text};
 use row_notation::{Answer, push_fault};
 
@@ -22,7 +23,10 @@ pub(crate) fn prints(ast: &Ast<'_>, answer: &mut Answer, indentation: Indentatio
 pub(crate) fn settles(answer: &mut Answer, indentation: Indentation, limit: usize, printed: &str) {
     let mut again = Answer::new(answer.alloc());
     match parse(answer.alloc(), &Expansion::Unchanged, limit, printed) {
-        Ok(mut ast) => prints_once(&mut ast, &mut again, indentation),
+        Ok(mut ast) => {
+            prints_once(&mut ast, &mut again, indentation);
+            release(ast);
+        }
         Err(fault) => push_fault(&mut again, printed, &fault),
     }
     let mut expected = Answer::new(answer.alloc());

@@ -18,8 +18,8 @@ use crate::scarce::once::run_once;
 use crate::scarce::scarcity::{AMPLE, Scarcity};
 use crate::scarce::text::TEXT;
 use justfile_syntax::ast::Ast;
-use justfile_syntax::fault::Fault;
 use justfile_syntax::numerator::Numerator;
+use justfile_syntax::parser::release;
 use justfile_syntax::token::Token;
 use row_notation::Answer;
 use std::alloc::{AllocError, Global};
@@ -63,22 +63,27 @@ fn sweep<'src>(
 }
 
 /// Makes the calls for a justfile with scarce memory, and returns their outcomes.
-fn run(alloc: Global, text: &str) -> Result<Outcomes, Fault<'_>> {
-    let tokens = lex(alloc, text)?;
-    match parse(alloc, &mut Numerator::new(0), text) {
-        Ok(mut ast) => swept(&mut ast, alloc, text, &tokens),
-        Err(fault) => Err(fault),
+fn run(alloc: Global, text: &str) -> Result<Outcomes, AllocError> {
+    match lex(alloc, text) {
+        Ok(tokens) => run_with(alloc, text, &tokens),
+        Err(_) => Err(AllocError),
     }
 }
 
-/// Makes the calls for a file, its text and its tokens, and returns their outcomes.
-fn swept<'src>(
-    ast: &mut Ast<'src>,
+/// Makes the calls for a justfile with these tokens.
+fn run_with<'src>(
     alloc: Global,
     text: &'src str,
     tokens: &[Token<'src>],
-) -> Result<Outcomes, Fault<'src>> {
-    Ok(sweep(ast, alloc, text, tokens)?)
+) -> Result<Outcomes, AllocError> {
+    match parse(alloc, &mut Numerator::new(0), text) {
+        Ok(mut ast) => {
+            let outcomes = sweep(&mut ast, alloc, text, tokens);
+            release(ast);
+            outcomes
+        }
+        Err(_) => Err(AllocError),
+    }
 }
 
 /// Makes the calls with scarce memory, and writes what is to be said about the outcomes of lexing,

@@ -10,16 +10,14 @@ pub(crate) fn copies_assignment(assignment: &Assignment<'_>, answer: &mut Answer
     push_copy(assignment, assignment.clone(answer.alloc()), answer);
 }
 
-/// Writes `uncopied` for each copy that isn't equal to its original: of aliases and functions, and
-/// of the parameters, the dependencies and the arguments of recipes.
-pub fn copies_items(items: &[Item<'_>], answer: &mut Answer) {
-    for item in items {
-        match item {
-            Item::Alias(alias) => copies_alias(alias, answer),
-            Item::Function(function) => copies_function(function, answer),
-            Item::Recipe(recipe) => copies_header(recipe, answer),
-            _ => {}
-        }
+/// Writes `uncopied` for each copy that isn't equal to its original: of an alias or a function, and
+/// of the parameters, the dependencies and the arguments of a recipe.
+pub(crate) fn copies_item(item: &Item<'_>, answer: &mut Answer) {
+    match item {
+        Item::Alias(alias) => copies_alias(alias, answer),
+        Item::Function(function) => copies_function(function, answer),
+        Item::Recipe(recipe) => copies_header(recipe, answer),
+        _ => {}
     }
 }
 

@@ -1,5 +1,6 @@
 //! Items of files, as rows show them.
 
+use crate::items_part::{ItemsPart, push_of_items};
 use justfile_ast::Ast;
 use justfile_attribute_set::AttributeSet;
 use justfile_item::{Alias, Assignment, FunctionDefinition, Item, Set, UnresolvedRecipe};
@@ -144,23 +145,17 @@ fn put_item(item: &Item<'_>, shown: &mut Text) {
     }
 }
 
-fn push_item(item: &Item<'_>, answer: &mut Answer) {
+/// Writes an item as a field.
+pub(crate) fn push_item(item: &Item<'_>, answer: &mut Answer) {
     let mut shown = Text::new(answer.alloc());
     put_item(item, &mut shown);
     answer.push_text(shown);
 }
 
-/// Writes the items of a file.
-pub fn push_items(items: &[Item<'_>], answer: &mut Answer) {
-    for item in items {
-        push_item(item, answer);
-    }
-}
-
 /// Writes a file: a field for each item, whether the working directory isn't the one passed to
 /// `parse`, whether a feature is unstable, and whether the file sets an indentation.
 pub fn file(ast: &Ast<'_>, answer: &mut Answer) {
-    push_items(&ast.items, answer);
+    push_of_items(&ast.items, answer, ItemsPart::Items);
     answer.push_if(
         "directory",
         ast.working_directory.as_str() != WORKING_DIRECTORY,

@@ -1,7 +1,7 @@
 //! Items and files, as rows show them. `docs/ROWS.md` describes the words that show them.
 #![tactic(auto)]
 
-pub mod copies;
+mod copies;
 mod expressions;
 pub mod items;
 pub mod items_part;

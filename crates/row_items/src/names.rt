@@ -3,15 +3,14 @@
 use justfile_item::Item;
 use justfile_token::{Keyed, Token};
 use justfile_vocabulary::{ListFeature, UnstableFeature};
-use row_notation::{Answer, Text};
+use row_notation::{Answer, Text, push_each_debug};
 use row_parts::attributes::push_attributes;
-use row_parts::sets::push_joined;
 use row_parts::settings::push_setting;
 use row_parts::shown::put_marked;
 use std::collections::BTreeSet;
 
 /// Writes the key of an item that has one.
-fn push_key(item: &Item<'_>, answer: &mut Answer) {
+pub(crate) fn push_key(item: &Item<'_>, answer: &mut Answer) {
     match item {
         Item::Alias(alias) => answer.push(alias.key()),
         Item::Assignment(assignment) => answer.push(assignment.key()),
@@ -22,23 +21,9 @@ fn push_key(item: &Item<'_>, answer: &mut Answer) {
     }
 }
 
-/// Writes the keys of the items that have one.
-pub(crate) fn keys(items: &[Item<'_>], answer: &mut Answer) {
-    for item in items {
-        push_key(item, answer);
-    }
-}
-
-/// Writes the names of the items that are enabled on this system.
-pub(crate) fn enabled(items: &[Item<'_>], answer: &mut Answer) {
-    for item in items {
-        push_enabled(item, answer);
-    }
-}
-
 /// Writes the name of an item that is enabled. An item without a name always is; if it isn't,
 /// writes `missing`.
-fn push_enabled(item: &Item<'_>, answer: &mut Answer) {
+pub(crate) fn push_enabled(item: &Item<'_>, answer: &mut Answer) {
     if item.is_enabled() {
         push_name(item, answer);
     } else if matches!(item, Item::Comment(_) | Item::Newline) {
@@ -56,14 +41,12 @@ fn push_name(item: &Item<'_>, answer: &mut Answer) {
     }
 }
 
-/// Writes the doc of each recipe and module of a file's items in ‹›, or `none`.
-pub(crate) fn docs(items: &[Item<'_>], answer: &mut Answer) {
-    for item in items {
-        match item {
-            Item::Module { doc, .. } => push_doc(answer, doc),
-            Item::Recipe(recipe) => push_doc(answer, &recipe.doc),
-            _ => {}
-        }
+/// Writes the doc of a recipe or a module in ‹›, or `none`.
+pub(crate) fn push_doc_of(item: &Item<'_>, answer: &mut Answer) {
+    match item {
+        Item::Module { doc, .. } => push_doc(answer, doc),
+        Item::Recipe(recipe) => push_doc(answer, &recipe.doc),
+        _ => {}
     }
 }
 
@@ -76,48 +59,20 @@ fn push_doc(answer: &mut Answer, doc: &Option<String>) {
     answer.push_text(shown);
 }
 
-/// Writes the attributes of the first item that has any, each with the offset of its name, and its
-/// comment.
-pub(crate) fn attributes(items: &[Item<'_>], answer: &mut Answer) {
-    for item in items {
-        if push_attributes_of(item, answer) {
-            return;
-        }
+/// Writes the attributes of an item, each with the offset of its name, and its comment. Returns
+/// whether it has any.
+pub(crate) fn push_attributes_of(item: &Item<'_>, answer: &mut Answer) -> bool {
+    match item.attributes() {
+        Some(attributes) => push_attributes(attributes, answer),
+        None => false,
     }
 }
 
-/// Writes the attributes of an item, and returns whether it has any.
-fn push_attributes_of(item: &Item<'_>, answer: &mut Answer) -> bool {
-    match item {
-        Item::Alias(alias) => push_attributes(&alias.attributes, answer),
-        Item::Assignment(assignment) => push_attributes(&assignment.attributes, answer),
-        Item::Comment(_) | Item::Newline => false,
-        Item::Function(function) => push_attributes(&function.attributes, answer),
-        Item::Import { attributes, .. } => push_attributes(attributes, answer),
-        Item::Module { attributes, .. } => push_attributes(attributes, answer),
-        Item::Recipe(recipe) => push_attributes(&recipe.attributes, answer),
-        Item::Setting(set) => push_attributes(&set.attributes, answer),
-        Item::Unexport { attributes, .. } => push_attributes(attributes, answer),
-    }
-}
-
-/// Writes the set that is made from the attributes of a file's first recipe.
-pub(crate) fn sets(items: &[Item<'_>], answer: &mut Answer) {
-    for item in items {
-        if let Item::Recipe(recipe) = item {
-            return push_joined(&recipe.attributes, answer, recipe.name, recipe.comment);
-        }
-    }
-    answer.push("none")
-}
-
-/// Writes the properties of each setting of a file's items, and the text that it displays.
-pub(crate) fn settings(items: &[Item<'_>], answer: &mut Answer) {
-    for item in items {
-        if let Item::Setting(set) = item {
-            push_setting(&set.value, answer);
-            answer.push_made(set.to_string(answer.alloc()));
-        }
+/// Writes the properties of a setting, and the text that it displays.
+pub(crate) fn push_setting_of(item: &Item<'_>, answer: &mut Answer) {
+    if let Item::Setting(set) = item {
+        push_setting(&set.value, answer);
+        answer.push_display(set);
     }
 }
 
@@ -131,7 +86,7 @@ pub fn features(answer: &mut Answer, features: &[(ListFeature, Token<'_>)]) {
 
 fn push_feature(answer: &mut Answer, feature: ListFeature, token: &Token<'_>) {
     let mut shown = Text::new(answer.alloc());
-    shown.put_made(format!(in answer.alloc(); "{feature:?}"));
+    shown.put_debug(&feature);
     shown.put("@");
     shown.put_number(token.offset);
     put_marked(&mut shown, "", token.lexeme());
@@ -140,7 +95,5 @@ fn push_feature(answer: &mut Answer, feature: ListFeature, token: &Token<'_>) {
 
 /// Writes the unstable features that a file uses.
 pub fn unstable(answer: &mut Answer, features: &BTreeSet<UnstableFeature>) {
-    for feature in features {
-        answer.push_made(format!(in answer.alloc(); "{feature:?}"));
-    }
+    push_each_debug(features.iter(), answer);
 }

@@ -9,8 +9,8 @@ use row_parts::orders::{push_order, push_with_copy};
 /// Writes how the value of each assignment compares with that of the next one. A line end comes
 /// between two assignments.
 pub(crate) fn orders(items: &[Item<'_>], answer: &mut Answer) {
-    for (index, item) in items.iter().enumerate() {
-        if let Item::Assignment(assignment) = item {
+    for index in 0..items.len() {
+        if let Item::Assignment(assignment) = &items[index] {
             push_with_next(items, answer, index.saturating_add(2), &assignment.value);
             push_with_copy(&assignment.value, answer);
             copies_assignment(assignment, answer);

@@ -1,32 +1,25 @@
 //! What items of all kinds have, as rows show it.
 
+use justfile_attribute_set::AttributeSet;
 use justfile_item::Item;
 use row_notation::{Answer, Text};
 use row_parts::attributes::put_groups;
-use row_parts::shown::{put_expression_of, put_if, put_marked};
-use std::alloc::AllocError;
+use row_parts::expressions::put_found;
+use row_parts::shown::{put_if, put_marked};
 
-/// Writes what each item has: its kind, its name, whether it is private, of an alias whether it is
+/// Writes what an item has: its kind, its name, whether it is private, of an alias whether it is
 /// public, the kinds of its attributes, its groups, its doc, the truth of a setting, and its
 /// expressions, each with the lexeme that it begins with.
-pub(crate) fn parts(items: &[Item<'_>], answer: &mut Answer) {
-    for item in items {
-        push_parts(item, answer);
-    }
-}
-
-fn push_parts(item: &Item<'_>, answer: &mut Answer) {
+pub(crate) fn push_parts(item: &Item<'_>, answer: &mut Answer) {
     let mut shown = Text::new(answer.alloc());
-    shown.put_made(item.kind().to_string(answer.alloc()));
+    shown.put_display(&item.kind());
     put_item_name(item, &mut shown);
     put_if(&mut shown, " private", item.is_private());
     put_public(item, &mut shown);
     put_kinds(item, &mut shown);
     put_item_doc(item, &mut shown);
     put_truth(item, &mut shown);
-    if put_expressions(item, &mut shown).is_err() {
-        answer.fail();
-    }
+    put_found(item.expressions(answer.alloc()), &mut shown);
     answer.push_text(shown);
 }
 
@@ -44,12 +37,18 @@ fn put_public(item: &Item<'_>, shown: &mut Text) {
     }
 }
 
-/// Writes the kinds of the attributes of an item.
+/// Writes the kinds of attributes.
+fn put_attribute_kinds(attributes: &AttributeSet<'_>, shown: &mut Text) {
+    let written = attributes.written();
+    for index in 0..written.len() {
+        put_marked(shown, " attribute ", written[index].0.kind().name());
+    }
+}
+
+/// Writes the kinds of the attributes of an item, and its groups.
 fn put_kinds(item: &Item<'_>, shown: &mut Text) {
     if let Some(attributes) = item.attributes() {
-        for attribute in attributes {
-            put_marked(shown, " attribute ", attribute.kind().name());
-        }
+        put_attribute_kinds(attributes, shown);
         put_groups(attributes, shown);
     }
 }
@@ -67,13 +66,4 @@ fn put_truth(item: &Item<'_>, shown: &mut Text) {
         put_if(shown, " true", set.value.truth() == Some(true));
         put_if(shown, " false", set.value.truth() == Some(false));
     }
-}
-
-/// Writes the expressions of an item.
-fn put_expressions(item: &Item<'_>, shown: &mut Text) -> Result<(), AllocError> {
-    let expressions = item.expressions(shown.alloc())?;
-    for index in 0..expressions.len() {
-        put_expression_of(expressions[index], shown);
-    }
-    Ok(())
 }

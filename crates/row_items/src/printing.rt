@@ -82,7 +82,7 @@ pub fn stops(ast: &Ast<'_>, answer: &mut Answer, calls: u32, how: &str) {
     answer.push(writer.text());
     match result {
         Ok(()) => answer.push("written"),
-        Err(fault) => answer.push_made(format!(in answer.alloc(); "{fault:?}")),
+        Err(fault) => answer.push_debug(&fault),
     }
 }
 
@@ -117,9 +117,9 @@ fn push_item(item: &Item<'_>, answer: &mut Answer, indentation: Indentation) {
     answer.push(if item.has_body() { "body" } else { "bodiless" });
     answer.push_made(item.print(answer.alloc(), indentation));
     match item {
-        Item::Alias(alias) => answer.push_made(alias.to_string(answer.alloc())),
-        Item::Assignment(assignment) => answer.push_made(assignment.to_string(answer.alloc())),
-        Item::Setting(set) => answer.push_made(set.to_string(answer.alloc())),
+        Item::Alias(alias) => answer.push_display(alias),
+        Item::Assignment(assignment) => answer.push_display(assignment),
+        Item::Setting(set) => answer.push_display(set),
         _ => {}
     }
 }

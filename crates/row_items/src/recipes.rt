@@ -5,6 +5,7 @@ use justfile_line::Line;
 use row_notation::{Answer, Text};
 use row_parts::headers::{push_arguments, push_defaults, push_dependencies, push_parameters};
 use row_parts::lines::{push_line, push_sigils};
+use row_parts::sets::push_joined;
 use row_parts::shown::put_marked;
 
 /// The depth at which rows parse files.
@@ -32,14 +33,23 @@ pub enum RecipePart {
     Sigils(bool),
 }
 
-/// Writes a part of the first recipe of a file's items.
-pub(crate) fn push_of_recipe(items: &[Item<'_>], answer: &mut Answer, part: RecipePart) {
-    for item in items {
-        if let Item::Recipe(recipe) = item {
-            return push_part(recipe, answer, part);
-        }
+/// Writes a part of an item, if it is a recipe, and returns whether it is one.
+pub(crate) fn push_recipe_part(item: &Item<'_>, answer: &mut Answer, part: RecipePart) -> bool {
+    if let Item::Recipe(recipe) = item {
+        push_part(recipe, answer, part);
+        return true;
     }
-    answer.push("none")
+    false
+}
+
+/// Writes the set that is made from the attributes of an item, if it is a recipe, and returns
+/// whether it is one.
+pub(crate) fn push_set_of(item: &Item<'_>, answer: &mut Answer) -> bool {
+    if let Item::Recipe(recipe) = item {
+        push_joined(&recipe.attributes, answer, recipe.name, recipe.comment);
+        return true;
+    }
+    false
 }
 
 /// Writes a part of a recipe.

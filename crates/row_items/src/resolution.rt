@@ -3,7 +3,7 @@
 use justfile_item::Item;
 use justfile_numbers::Number;
 use row_notation::{Answer, field_at};
-use row_parts::resolution::{push_variables, resolve_setting, resolve_value};
+use row_parts::resolution::{push_found_variables, resolve_setting, resolve_value};
 use std::alloc::{AllocError, Global};
 use std::collections::HashMap;
 
@@ -88,15 +88,5 @@ fn resolve_item<'src>(
 
 /// Writes the variables of the expressions of an item.
 fn push_item(item: &Item<'_>, answer: &mut Answer) {
-    if push_of_item(item, answer).is_err() {
-        answer.fail();
-    }
-}
-
-fn push_of_item(item: &Item<'_>, answer: &mut Answer) -> Result<(), AllocError> {
-    let values = item.expressions(answer.alloc())?;
-    for index in 0..values.len() {
-        push_variables(values[index], answer);
-    }
-    Ok(())
+    push_found_variables(item.expressions(answer.alloc()), answer);
 }

@@ -24,7 +24,7 @@ pub fn push_symbols(answer: &mut Answer, symbols: &[Symbol<'_>]) {
 /// whether it is private or disabled on this system.
 fn push_symbol(symbol: &Symbol<'_>, answer: &mut Answer) {
     let mut shown = Text::new(answer.alloc());
-    shown.put_made(symbol.kind.to_string(answer.alloc()));
+    shown.put_display(&symbol.kind);
     put_marked(&mut shown, " ", symbol.name.lexeme());
     if !symbol.parameters.as_str().is_empty() {
         put_marked(&mut shown, " parameters ", symbol.parameters.as_str());

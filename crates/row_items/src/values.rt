@@ -4,20 +4,9 @@ use justfile_item::Item;
 use row_notation::Answer;
 use row_parts::values::{ValueForm, push_module_path, push_path, push_value, push_value_set};
 
-/// Writes what a form shows of the first value of a file's items, or the first path if
-/// there is no value.
-pub(crate) fn push_of_value(items: &[Item<'_>], answer: &mut Answer, form: ValueForm) {
-    for item in items {
-        if push_value_in(item, answer, form) {
-            return;
-        }
-    }
-    push_of_path(items, answer, form)
-}
-
 /// Writes what a form shows of the value of an assignment, a function or a setting, and
 /// returns whether the item has one.
-fn push_value_in(item: &Item<'_>, answer: &mut Answer, form: ValueForm) -> bool {
+pub(crate) fn push_value_in(item: &Item<'_>, answer: &mut Answer, form: ValueForm) -> bool {
     match item {
         Item::Assignment(assignment) => push_value(&assignment.value, answer, form),
         Item::Function(function) => push_value(&function.body, answer, form),
@@ -26,19 +15,9 @@ fn push_value_in(item: &Item<'_>, answer: &mut Answer, form: ValueForm) -> bool 
     }
 }
 
-/// Writes what a form shows of the first path of a file's items.
-fn push_of_path(items: &[Item<'_>], answer: &mut Answer, form: ValueForm) {
-    for item in items {
-        if push_path_in(item, answer, form) {
-            return;
-        }
-    }
-    answer.push("none")
-}
-
 /// Writes what a form shows of the path of an import or a module, and returns whether
 /// there is one.
-fn push_path_in(item: &Item<'_>, answer: &mut Answer, form: ValueForm) -> bool {
+pub(crate) fn push_path_in(item: &Item<'_>, answer: &mut Answer, form: ValueForm) -> bool {
     match item {
         Item::Import { relative, .. } => push_path(relative, answer, form),
         Item::Module { relative, .. } => push_module_path(relative, answer, form),

@@ -10,7 +10,7 @@ use row_notation::{Answer, Text};
 pub fn put_parameters(parameters: &[Parameter<'_>], shown: &mut Text) {
     for parameter in parameters {
         shown.put(" ");
-        shown.put_made(parameter.to_string(shown.alloc()));
+        shown.put_display(parameter);
         shown.put("@");
         shown.put_number(parameter.number.0 as usize);
     }
@@ -26,14 +26,14 @@ pub fn put_dependencies(
     put_if(shown, " :", !dependencies.is_empty());
     for (index, dependency) in dependencies.iter().enumerate() {
         shown.put(if index == priors { " && " } else { " " });
-        shown.put_made(dependency.to_string(shown.alloc()));
+        shown.put_display(dependency);
     }
 }
 
 /// Writes each parameter of a recipe: its printed text, and its fields.
 pub fn push_parameters(parameters: &[Parameter<'_>], answer: &mut Answer) {
     for parameter in parameters {
-        answer.push_made(parameter.to_string(answer.alloc()));
+        answer.push_display(parameter);
         push_parameter(parameter, answer);
     }
 }
@@ -54,7 +54,8 @@ fn push_parameter(parameter: &Parameter<'_>, answer: &mut Answer) {
 
 /// Writes the kind of a parameter, its prefix, and whether it takes several arguments.
 fn put_kind(parameter: &Parameter<'_>, shown: &mut Text) {
-    shown.put_made(format!(in shown.alloc(); " {:?}", parameter.kind));
+    shown.put(" ");
+    shown.put_debug(&parameter.kind);
     if let Some(prefix) = parameter.kind.prefix() {
         put_marked(shown, " ", prefix);
     }
@@ -74,7 +75,24 @@ fn put_value(value: &Option<Expression<'_>>, shown: &mut Text, word: &str) {
 /// Writes a word and a number, if there is one.
 fn put_bound(shown: &mut Text, word: &str, bound: Option<u64>) {
     if let Some(number) = bound {
-        shown.put_made(format!(in shown.alloc(); " {word} {number}"));
+        shown.put(word);
+        shown.put_display(&number);
+    }
+}
+
+/// Writes the name of a long option in ‹›, if there is one.
+fn put_long(shown: &mut Text, long: &Option<String>) {
+    if let Some(long) = long {
+        put_marked(shown, " long ", long.as_str());
+    }
+}
+
+/// Writes the name of a short option in ‹›, if there is one.
+fn put_short(shown: &mut Text, short: Option<char>) {
+    if let Some(short) = short {
+        shown.put(" short ‹");
+        shown.put_character(short);
+        shown.put("›");
     }
 }
 
@@ -82,15 +100,11 @@ fn put_bound(shown: &mut Text, word: &str, bound: Option<u64>) {
 fn put_argument_rules(parameter: &Parameter<'_>, shown: &mut Text) {
     put_if(shown, " flag", parameter.flag);
     put_if(shown, " help", parameter.help.is_some());
-    if let Some(long) = &parameter.long {
-        put_marked(shown, " long ", long.as_str());
-    }
-    put_bound(shown, "max", parameter.max);
-    put_bound(shown, "min", parameter.min);
+    put_long(shown, &parameter.long);
+    put_bound(shown, " max ", parameter.max);
+    put_bound(shown, " min ", parameter.min);
     put_if(shown, " multiple", parameter.multiple);
-    if let Some(short) = parameter.short {
-        shown.put_made(format!(in shown.alloc(); " short ‹{short}›"));
-    }
+    put_short(shown, parameter.short);
     put_value(&parameter.value, shown, " value");
 }
 
@@ -113,7 +127,7 @@ pub fn push_dependencies(
 ) {
     answer.push_number(priors);
     for dependency in dependencies {
-        answer.push_made(dependency.to_string(answer.alloc()));
+        answer.push_display(dependency);
         push_dependency(dependency, answer);
     }
 }
@@ -144,7 +158,7 @@ fn put_path(dependency: &UnresolvedDependency<'_>, shown: &mut Text) {
 /// Writes an argument in (), as it is printed, after a star if it is starred.
 fn put_argument(argument: &DependencyArgument<'_>, shown: &mut Text) {
     shown.put(" (");
-    shown.put_made(argument.to_string(shown.alloc()));
+    shown.put_display(argument);
     shown.put(")");
 }
 

@@ -3,7 +3,7 @@
 use crate::copies::copies_line;
 use crate::shown::{put_expression, put_marked};
 use justfile_line::{Fragment, Line};
-use row_notation::{Answer, Text};
+use row_notation::{Answer, Text, push_each_debug};
 
 /// Writes a fragment of a line: a text in ‹›, an expression in ().
 fn put_fragment(fragment: &Fragment<'_>, shown: &mut Text) {
@@ -28,11 +28,9 @@ pub fn put_line(line: &Line<'_>, shown: &mut Text) {
 
 /// Writes the sigils of a line, with or without guards.
 pub fn push_sigils(line: &Line<'_>, answer: &mut Answer, guards: bool) {
-    let Ok(sigils) = line.sigils(answer.alloc(), guards) else {
-        return answer.fail();
-    };
-    for sigil in &sigils {
-        answer.push_made(format!(in answer.alloc(); "{sigil:?}"));
+    match line.sigils(answer.alloc(), guards) {
+        Ok(sigils) => push_each_debug(sigils.iter(), answer),
+        Err(_) => answer.fail(),
     }
 }
 

@@ -36,10 +36,8 @@ pub fn push_with_copy(value: &Expression<'_>, answer: &mut Answer) {
 }
 
 fn push_other<'src>(value: &Expression<'src>, copy: &Expression<'src>, answer: &mut Answer) {
-    answer.push_if(
-        "uncopied",
-        value != copy || value.cmp(copy) != Ordering::Equal,
-    );
+    let is_same = value == copy && value.cmp(copy).is_eq();
+    answer.push_if("uncopied", !is_same);
 }
 
 /// Writes how two values compare with their positions, and how they compare by content. Writes

@@ -65,13 +65,24 @@ fn push_resolved<'src>(before: &Expression<'src>, value: &Expression<'src>, answ
 
 /// Writes the variables of the values that a setting holds.
 fn push_setting(setting: &Setting<'_>, answer: &mut Answer) {
-    if push_of_setting(setting, answer).is_err() {
+    push_found_variables(setting.expressions(answer.alloc()), answer);
+}
+
+/// Writes the variables of values that were collected.
+pub fn push_found_variables<'a, 'src>(
+    found: Result<Vec<&'a Expression<'src>>, AllocError>,
+    answer: &mut Answer,
+) {
+    if push_each(found, answer).is_err() {
         answer.fail();
     }
 }
 
-fn push_of_setting(setting: &Setting<'_>, answer: &mut Answer) -> Result<(), AllocError> {
-    let values = setting.expressions(answer.alloc())?;
+fn push_each<'a, 'src>(
+    found: Result<Vec<&'a Expression<'src>>, AllocError>,
+    answer: &mut Answer,
+) -> Result<(), AllocError> {
+    let values = found?;
     for index in 0..values.len() {
         push_variables(values[index], answer);
     }

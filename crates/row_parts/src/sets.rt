@@ -4,8 +4,9 @@ use crate::attributes::push_attribute;
 use justfile_attribute::Attribute;
 use justfile_attribute_set::{AttributeSet, ContentOrder, IntoNamed, PairSet};
 use justfile_token::Name;
-use row_notation::Answer;
+use row_notation::{Answer, Text};
 use std::alloc::{AllocError, Global};
+use std::fmt::Display;
 
 /// Makes a set from a set's attributes and their copies with this name and comment, and writes it.
 pub fn push_joined<'src>(
@@ -150,14 +151,22 @@ fn push_set<'src>(
 /// Writes `remade` if a set that is taken apart and made again isn't equal to it, `untaken` if its
 /// attributes by value are others, and `filled` if a new set has attributes.
 fn push_taken(set: &AttributeSet<'_>, answer: &mut Answer) {
-    match (remade(set, answer.alloc()), is_taken(set, answer.alloc())) {
-        (Ok(is_remade), Ok(is_taken)) => {
-            answer.push_if("remade", !is_remade);
-            answer.push_if("untaken", !is_taken);
-        }
-        _ => answer.fail(),
+    push_unless_so(answer, "remade", remade(set, answer.alloc()));
+    push_unless_so(answer, "untaken", is_taken(set, answer.alloc()));
+    answer.push_if("filled", is_filled(answer.alloc()));
+}
+
+/// Writes a word unless something is found to be so.
+fn push_unless_so(answer: &mut Answer, word: &str, found: Result<bool, AllocError>) {
+    match found {
+        Ok(is_so) => answer.push_if(word, !is_so),
+        Err(_) => answer.fail(),
     }
-    answer.push_if("filled", AttributeSet::new(answer.alloc()).len() > 0);
+}
+
+/// Whether a new set has attributes.
+fn is_filled(alloc: Global) -> bool {
+    !has_keys(AttributeSet::new(alloc), &[])
 }
 
 /// Whether a set is made again of what a copy of it is taken apart to.
@@ -225,7 +234,8 @@ fn push_unnamed<'src>(
     answer: &mut Answer,
     name: Name<'src>,
 ) {
-    answer.push_if("unnamed", *later != *made);
+    let is_equal = *later == *made;
+    answer.push_if("unnamed", !is_equal);
     push_unwanted(made, answer, name);
 }
 
@@ -240,8 +250,9 @@ fn push_unwanted<'src>(set: &mut AttributeSet<'src>, answer: &mut Answer, name: 
 
 /// Writes the attributes of a set, its groups, and whether one is `private`.
 fn push_members(set: &AttributeSet<'_>, answer: &mut Answer) {
-    for attribute in set {
-        push_member(set, attribute, answer);
+    let written = set.written();
+    for index in 0..written.len() {
+        push_member(set, &written[index].0, answer);
     }
     push_groups(set, answer);
     answer.push_if("private", set.private());
@@ -259,7 +270,7 @@ fn push_member<'src>(set: &AttributeSet<'src>, attribute: &Attribute<'src>, answ
 fn push_first<'src>(set: &AttributeSet<'src>, attribute: &Attribute<'src>, answer: &mut Answer) {
     match set.get(attribute.kind()) {
         Some(first) if *first == *attribute => {}
-        Some(first) => answer.push_made(format!(in answer.alloc(); "after {first}")),
+        Some(first) => push_labelled(answer, "after ", first),
         None => answer.push("missing"),
     }
 }
@@ -269,9 +280,17 @@ fn push_groups(set: &AttributeSet<'_>, answer: &mut Answer) {
     match set.groups(answer.alloc()) {
         Ok(groups) => {
             for group in &groups {
-                answer.push_made(format!(in answer.alloc(); "in {group}"));
+                push_labelled(answer, "in ", group);
             }
         }
         Err(_) => answer.fail(),
     }
+}
+
+/// Writes a word and the text that a value displays as a field.
+fn push_labelled<T: Display>(answer: &mut Answer, word: &str, value: &T) {
+    let mut shown = Text::new(answer.alloc());
+    shown.put(word);
+    shown.put_display(value);
+    answer.push_text(shown);
 }

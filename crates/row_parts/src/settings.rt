@@ -5,7 +5,7 @@ use justfile_attribute::Interpreter;
 use justfile_expression::Expression;
 use justfile_setting::Setting;
 use justfile_token::StringLiteral;
-use justfile_vocabulary::Indentation;
+use justfile_vocabulary::{Indentation, Keyword};
 use row_notation::{Answer, Text};
 
 /// Writes an interpreter: its command and its arguments in brackets.
@@ -22,7 +22,9 @@ fn put_interpreter(interpreter: &Interpreter<Expression<'_>>, shown: &mut Text) 
 /// Writes the literal of an indentation, and the indentation in ‹›.
 fn put_indentation(literal: &StringLiteral<'_>, shown: &mut Text, indentation: Indentation) {
     put_literal(literal, shown);
-    shown.put_made(format!(in shown.alloc(); " ‹{indentation}›"));
+    shown.put(" ‹");
+    shown.put_display(&indentation);
+    shown.put("›");
 }
 
 /// Writes the value of a setting.
@@ -38,7 +40,7 @@ pub fn put_setting(setting: &Setting<'_>, shown: &mut Text) {
         Setting::Tempdir(value) => put_value(value, shown),
         Setting::WindowsShell(interpreter) => put_interpreter(interpreter, shown),
         Setting::WorkingDirectory(value) => put_value(value, shown),
-        _ => shown.put_made(setting.to_string(shown.alloc())),
+        _ => shown.put_display(setting),
     }
 }
 
@@ -46,12 +48,17 @@ pub fn put_setting(setting: &Setting<'_>, shown: &mut Text) {
 /// settings it conflicts with.
 pub fn push_setting(setting: &Setting<'_>, answer: &mut Answer) {
     let mut shown = Text::new(answer.alloc());
-    shown.put_made(format!(in answer.alloc(); "{:?}", setting.keyword()));
+    shown.put_debug(&setting.keyword());
     put_if(&mut shown, " default", setting.is_default());
     put_if(&mut shown, " !", !setting.conflicts().is_empty());
-    for keyword in setting.conflicts() {
+    put_keywords(setting.conflicts(), &mut shown);
+    answer.push_text(shown);
+}
+
+/// Writes keywords, each after a blank.
+fn put_keywords(keywords: &[Keyword], shown: &mut Text) {
+    for keyword in keywords {
         shown.put(" ");
         shown.put(keyword.lexeme());
     }
-    answer.push_text(shown);
 }

@@ -21,12 +21,12 @@ pub fn put_marked(shown: &mut Text, word: &str, text: &str) {
 
 /// Writes a name.
 pub fn put_name(shown: &mut Text, name: Name<'_>) {
-    shown.put_made(name.to_string(shown.alloc()));
+    shown.put_display(&name);
 }
 
 /// Writes the printed text of an expression.
 pub fn put_expression(expression: &Expression<'_>, shown: &mut Text) {
-    shown.put_made(expression.to_string(shown.alloc()));
+    shown.put_display(expression);
 }
 
 /// Writes a literal: whether it is expanded, and its text.

@@ -120,7 +120,7 @@ fn push_children(expression: &Expression<'_>, answer: &mut Answer) {
 
 /// Writes the text of an expression.
 fn push_expression(expression: &Expression<'_>, answer: &mut Answer) {
-    answer.push_made(expression.to_string(answer.alloc()));
+    answer.push_display(expression);
 }
 
 /// Writes the form of an expression that isn't a format string, with the token that it holds.
@@ -167,7 +167,7 @@ fn push_command(answer: &mut Answer, contents: &str, token: &Token<'_>) {
 }
 
 fn push_comparison(answer: &mut Answer, operator: ConditionalOperator, token: &Token<'_>) {
-    answer.push_made(format!(in answer.alloc(); "{operator:?}"));
+    answer.push_debug(&operator);
     push_head(answer, "", token)
 }
 
@@ -175,7 +175,7 @@ fn push_comparison(answer: &mut Answer, operator: ConditionalOperator, token: &T
 /// and its text.
 fn push_literal(literal: &StringLiteral<'_>, answer: &mut Answer) {
     match &literal.part {
-        Some(part) => answer.push_made(format!(in answer.alloc(); "{part:?}")),
+        Some(part) => answer.push_debug(part),
         None if literal.expand => answer.push("marked"),
         None => answer.push("text"),
     }
@@ -184,6 +184,6 @@ fn push_literal(literal: &StringLiteral<'_>, answer: &mut Answer) {
 
 fn push_variable(answer: &mut Answer, name: &Name<'_>, is_numbered: bool) {
     answer.push("name");
-    answer.push_made(name.to_string(answer.alloc()));
+    answer.push_display(name);
     answer.push_if("numbered", is_numbered);
 }

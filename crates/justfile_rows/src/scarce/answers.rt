@@ -9,7 +9,7 @@ use justfile_syntax::fault::{CompileResult, Fault};
 use justfile_syntax::indentation::Indentation;
 use justfile_syntax::lexer::Lexer;
 use justfile_syntax::numerator::{Number, Numerator};
-use justfile_syntax::parser::{Parser, RECURSION_LIMIT};
+use justfile_syntax::parser::{Parser, RECURSION_LIMIT, release};
 use justfile_syntax::source::Source;
 use justfile_syntax::token::Token;
 use justfile_syntax::version::Version;
@@ -72,7 +72,11 @@ pub(crate) fn judge_file<'src>(
 ) -> Outcome {
     let (bindings, recipes) = numbers(numerator).unwrap_or((u32::MAX, u32::MAX));
     match answer {
-        Ok(mut ast) => judge_printed(&mut ast, alloc, (bindings, recipes)),
+        Ok(mut ast) => {
+            let outcome = judge_printed(&mut ast, alloc, (bindings, recipes));
+            release(ast);
+            outcome
+        }
         Err(Fault::Memory) if bindings <= BINDINGS && recipes <= RECIPES => Outcome::Refused,
         Err(_) => Outcome::Wrong,
     }

@@ -6,6 +6,7 @@ use crate::scarce::counts::Outcome;
 use justfile_syntax::ast::Ast;
 use justfile_syntax::indentation::Indentation;
 use justfile_syntax::numerator::Numerator;
+use justfile_syntax::parser::release;
 use justfile_syntax::token::Token;
 use std::io;
 
@@ -21,13 +22,27 @@ fn report(rt: &HostRuntime, call: &str, first: Outcome, again: Outcome) -> io::R
 
 /// Makes each call once, and writes its outcome, and the outcome of the same call made again.
 pub(crate) fn run_once(rt: &HostRuntime, text: &str) -> io::Result<()> {
-    match lex(rt.alloc(), text) {
-        Ok(tokens) => lex_once(rt, text, &tokens)?,
-        Err(_) => report(rt, "lexing", Outcome::Wrong, Outcome::Wrong)?,
-    }
+    lex_first(rt, text)?;
     parse_once(rt, text)?;
+    print_first(rt, text)
+}
+
+/// Lexes the text, to compare with its tokens.
+fn lex_first(rt: &HostRuntime, text: &str) -> io::Result<()> {
+    match lex(rt.alloc(), text) {
+        Ok(tokens) => lex_once(rt, text, &tokens),
+        Err(_) => report(rt, "lexing", Outcome::Wrong, Outcome::Wrong),
+    }
+}
+
+/// Parses the text, to print its file.
+fn print_first(rt: &HostRuntime, text: &str) -> io::Result<()> {
     match parse(rt.alloc(), &mut Numerator::new(0), text) {
-        Ok(mut ast) => print_once(&mut ast, rt),
+        Ok(mut ast) => {
+            let printed = print_once(&mut ast, rt);
+            release(ast);
+            printed
+        }
         Err(_) => report(rt, "printing", Outcome::Wrong, Outcome::Wrong),
     }
 }
