@@ -1,5 +1,5 @@
 -- Parts of a text as an editor is shown them.
-use Rattle.std.specs.Prelude.{ℕ, ◌-◌, ◌==◌, nat_lt, if◌then◌else◌, List, Option, None, Some, length, min, max, string_bytes}
+use Rattle.std.specs.Prelude.{ℕ, ◌-◌, ◌==◌, nat_lt, if◌then◌else◌, List, [], Option, None, Some, length, min, max, option_map, string_bytes}
 use Rattle.justfile_lines.specs.Positions.{column_at, line_at}
 use Rattle.justfile_lines.specs.declared.encoding.Encoding.{Encoding}
 use Rattle.justfile_lines.specs.declared.position.Position.{Position}
@@ -7,10 +7,13 @@ use Rattle.text_edits.specs.declared.edit.Range.{Range}
 use Rattle.editor_messages.specs.declared.answer.Diagnostic.{Diagnostic}
 use Rattle.editor_messages.specs.declared.answer.Fold.{Fold}
 use Rattle.editor_messages.specs.declared.answer.Highlight.{Highlight}
+use Rattle.editor_messages.specs.declared.answer.Related.{Related}
 use Rattle.editor_messages.specs.declared.answer.Symbol.{Symbol}
 use Rattle.editor_messages.specs.declared.symbol_kind.SymbolKind.{SymbolKind}
 use Rattle.editor_language.specs.declared.mention.Mention.{Mention}
+use Rattle.editor_language.specs.declared.parts.Finding.{Finding}
 use Rattle.editor_language.specs.declared.parts.Item.{Item}
+use Rattle.editor_language.specs.declared.parts.OtherPlace.{OtherPlace}
 use Rattle.editor_language.specs.declared.parts.Problem.{Problem}
 use Rattle.editor_language.specs.declared.parts.Span.{Span}
 
@@ -39,16 +42,33 @@ fold_in range = if nat_lt range.start.line (last_line_of range) then Some (recor
 abbrev pub fold_of : Encoding → (text : List ℕ) → Span → Option Fold
 fold_of encoding text span = fold_in (range_of encoding text span)
 
--- a range and a message
-abbrev pub Told : Type 0
-Told = Range × List ℕ
+-- another range, and what is there
+abbrev pub Beside : Type 0
+Beside = Range × List ℕ
 
--- what a diagnostic tells, and what is to be told of a problem
+-- a range and a message, the name of a kind, which may be empty, and another range
+pub record Told : Type 0 where
+  pub range : Range
+  pub message : List ℕ
+  pub code : List ℕ
+  pub related : Option Beside
+
+-- what a diagnostic tells, and what is to be told of a problem and of a finding
+abbrev pub beside : Related → Beside
+beside r = (r.range, r.message.now)
+
 abbrev pub told : Diagnostic → Told
-told d = (d.range, string_bytes d.message)
+told d = record { range = d.range; message = string_bytes d.message; code = d.code.now; related = option_map beside d.related }
 
 abbrev pub to_tell : Encoding → (text : List ℕ) → Problem → Told
-to_tell encoding text p = (range_of encoding text p.span, string_bytes p.message)
+to_tell encoding text p = record { range = range_of encoding text p.span; message = string_bytes p.message; code = []; related = None }
+
+abbrev pub to_place : Encoding → (text : List ℕ) → OtherPlace → Beside
+to_place encoding text o = (range_of encoding text o.span, o.message.now)
+
+abbrev pub to_find : Encoding → (text : List ℕ) → Finding → Told
+to_find encoding text f =
+    record { range = range_of encoding text f.span; message = string_bytes f.message; code = f.code.now; related = option_map (to_place encoding text) f.other }
 
 -- a name, a kind, the range of all and that of the name
 pub record Sight : Type 0 where

@@ -1,9 +1,9 @@
 //! Answers about a text.
-ghost use Rattle.std.specs.Prelude.{◌≡◌, IfErr, IfOk, IsOkUnless, map};
+ghost use Rattle.std.specs.Prelude.{◌≡◌, ◌++◌, IfErr, IfOk, IsOkUnless, map};
 ghost use Rattle.editor_messages.specs.declared.message.Query.TheVariants.{Rename};
 ghost use Rattle.editor_answers.specs.Answers.{Completes, FailsFor, Hovers, IsAbout, IsAnswer, IsRefused, Lacks, LacksName, Offers, RefusesName, Replaces, ShowsFolds, ShowsItems, Tells};
 ghost use Rattle.editor_answers.specs.Links.{LinksIn};
-ghost use Rattle.editor_answers.specs.Ranges.{to_tell, told};
+ghost use Rattle.editor_answers.specs.Ranges.{to_find, to_tell, told};
 
 use crate::addresses::{folder_of, folder_path, text_of};
 use crate::asked::Asked;
@@ -13,12 +13,12 @@ use crate::formats::{format, format_range};
 use crate::names::{definition, highlights, hover, references, rename, replaceable};
 use crate::renames::is_right;
 use crate::shown::Shown;
-use editor_language::{Analysis, Choices, Language, Mention, Problem};
+use editor_language::{Analysis, Choices, Finding, Language, Mention, Problem};
 use editor_messages::{Answer, Completions, Diagnostic, ErrorCode, Query};
 use justfile_lines::{Encoding, Position};
 use std::alloc::{AllocError, Global};
 
-/// Returns what is wrong in a text.
+/// Returns what is wrong in a text: its problems, and then its findings.
 ///
 /// # Errors
 ///
@@ -28,15 +28,17 @@ pub fn diagnostics(
     encoding: Encoding,
     text: &str,
     problems: &[Problem],
+    findings: &[Finding],
 ) -> Result<Vec<Diagnostic>, AllocError>
-    ensures { IfOk result (λ found.
-        map told found.items ≡ map (to_tell encoding text.now) problems.now) }
+    ensures { IfOk result (λ found. map told found.items
+        ≡ map (to_tell encoding text.now) problems.now
+        ++ map (to_find encoding text.now) findings.now) }
 {
-    if problems.is_empty() {
+    if problems.is_empty() && findings.is_empty() {
         return Ok(Vec::new(alloc));
     }
     let shown = Shown::new(alloc, encoding, text)?;
-    shown.diagnostics(alloc, problems)
+    shown.diagnostics(alloc, problems, findings)
 }
 
 /// Returns the answer to what is asked for about a text, of which this is known. It is that of the

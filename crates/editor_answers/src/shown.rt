@@ -1,15 +1,15 @@
 //! What is known of a text, as an editor is shown it.
-ghost use Rattle.std.specs.Prelude.{◌≡◌, ◌≤◌, ◌++◌, IfOk, OnOk, filter, length, map};
+ghost use Rattle.std.specs.Prelude.{◌≡◌, ◌≤◌, ◌++◌, IfOk, OnOk, filter, length, map, option_map};
 ghost use Rattle.std.specs.List.{filter_map};
 ghost use Rattle.std.specs.Option.{option_to_list};
 ghost use Rattle.editor_answers.specs.Links.{pointed, to_point};
 ghost use Rattle.justfile_lines.specs.Positions.{IsOffset, IsPlace};
 ghost use Rattle.editor_language.specs.Mentions.{is_like};
-ghost use Rattle.editor_answers.specs.Ranges.{fold_of, highlight_of, last_line_of, position_of, range_of, shown, to_show, to_tell, told};
+ghost use Rattle.editor_answers.specs.Ranges.{beside, fold_of, highlight_of, last_line_of, position_of, range_of, shown, to_find, to_place, to_show, to_tell, told};
 
 use crate::addresses::address;
-use editor_language::{FileLink, Item, Mention, Part, Problem, Span, is_like};
-use editor_messages::{Diagnostic, Fold, Highlight, Link, Symbol};
+use editor_language::{FileLink, Finding, Item, Mention, OtherPlace, Part, Problem, Span, is_like};
+use editor_messages::{Diagnostic, Fold, Highlight, Link, Related, Symbol};
 use justfile_lines::{Encoding, Lines, Place, Position};
 use std::alloc::{AllocError, Global};
 use text_edits::{Range, TextEdit};
@@ -130,19 +130,22 @@ impl<'a> Shown<'a> {
         Ok(highlights)
     }
 
-    /// Returns what is wrong in the text.
+    /// Returns what is wrong in the text: its problems, and then its findings.
     pub(crate) fn diagnostics(
         &self,
         alloc: Global,
         problems: &[Problem],
+        findings: &[Finding],
     ) -> Result<Vec<Diagnostic>, AllocError>
         ensures { IfOk result (λ found. map told found.items
-            ≡ map (to_tell self.now.encoding self.now.lines.text.now) problems.now) }
+            ≡ map (to_tell self.now.encoding self.now.lines.text.now) problems.now
+            ++ map (to_find self.now.encoding self.now.lines.text.now) findings.now) }
     {
         let mut diagnostics = Vec::new(alloc);
         for problem in problems {
             diagnostics.push(self.diagnostic(problem)?)?;
         }
+        self.push_found(findings, &mut diagnostics)?;
         Ok(diagnostics)
     }
 
@@ -153,7 +156,58 @@ impl<'a> Shown<'a> {
     {
         let message = problem.message.clone()?;
         let range = self.range(problem.span);
-        Ok(Diagnostic { range, message })
+        Ok(Diagnostic {
+            range,
+            message,
+            code: "",
+            related: None,
+        })
+    }
+
+    /// Appends findings.
+    fn push_found(
+        &self,
+        findings: &[Finding],
+        diagnostics: &mut Vec<Diagnostic>,
+    ) -> Result<(), AllocError>
+        ensures { OnOk result (map told diagnostics.new.items ≡ map told diagnostics.old.items
+            ++ map (to_find self.now.encoding self.now.lines.text.now) findings.now) }
+    {
+        let mut known = Place::start();
+        for finding in findings {
+            let (range, end) = self.range_after(known, finding.span);
+            diagnostics.push(self.found(range, finding)?)?;
+            known = end;
+        }
+        Ok(())
+    }
+
+    /// Returns a finding, which has this range.
+    fn found(&self, range: Range, finding: &Finding) -> Result<Diagnostic, AllocError>
+        requires { range
+            ≡ range_of self.now.encoding self.now.lines.text.now finding.now.span }
+        ensures { IfOk result (λ found. told found
+            ≡ to_find self.now.encoding self.now.lines.text.now finding.now) }
+    {
+        let message = finding.message.clone()?;
+        Ok(Diagnostic {
+            range,
+            message,
+            code: finding.code,
+            related: self.related(finding.other),
+        })
+    }
+
+    /// Returns another range, if there is one.
+    fn related(&self, other: Option<OtherPlace>) -> Option<Related>
+        ensures { option_map beside result ≡ option_map
+            (to_place self.now.encoding self.now.lines.text.now) other }
+    {
+        let other = other?;
+        Some(Related {
+            range: self.range(other.span),
+            message: other.message,
+        })
     }
 
     /// Returns the symbols of the text.

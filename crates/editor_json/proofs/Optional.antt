@@ -1,13 +1,16 @@
 -- Members that are there only with a text.
-use Rattle.std.proofs.Common.{◌≡◌, ◌∙◌, ◌++◌, ℕ, true, false, List, [], ◌∷◌, codes, refl, sym, ap, append_assoc, string_bytes}
+use Rattle.std.proofs.Common.{◌≡◌, ◌∙◌, ◌++◌, ℕ, true, false, List, [], ◌∷◌, Option, Some, None, codes, refl, sym, ap, append_assoc, string_bytes}
 use Rattle.std.specs.Prelude.{decimal}
+use Rattle.std.specs.Fmt.{digits}
 use Rattle.serde_json.proofs.OnLiterals.{serde_json_on_literals}
 use Rattle.serde_json.specs.Data.{Members, member, no_members}
 use Rattle.serde_json.specs.Written.{compact_text, members_text}
 use Rattle.text_edits.specs.declared.edit.Range.{Range}
 use Rattle.editor_messages.specs.Numbers.{completion_number}
 use Rattle.editor_messages.specs.declared.answer.Completion.{Completion}
-use Rattle.editor_json.specs.Sent.{completion_data, count_data, optional, optional_text, put_data, text_data}
+use Rattle.editor_messages.specs.declared.answer.Diagnostic.{Diagnostic}
+use Rattle.editor_messages.specs.declared.answer.Related.{Related}
+use Rattle.editor_json.specs.Sent.{completion_data, count_data, diagnostic_data, optional, optional_text, put_data, range_data, related_data, related_text, sure_data, text_data, with_related}
 
 -- more members have a comma before them
 abbrev HasComma : Members → Type 0
@@ -53,3 +56,46 @@ completed range c first second label edit kind f s k l e =
     ∙ ap (λ (t : List ℕ). 123 ∷ (optional_text (codes "detail") (string_bytes c.detail) ++ (optional_text (codes "documentation") (string_bytes c.documentation) ++ t))) (last_written range c)
     ∙ ap (λ (t : List ℕ). 123 ∷ (optional_text (codes "detail") (string_bytes c.detail) ++ t)) (sym (with_optional (codes "documentation") (string_bytes c.documentation) last comma))
     ∙ ap (λ (t : List ℕ). 123 ∷ t) (sym (with_optional (codes "detail") (string_bytes c.detail) others (comma_before (codes "documentation") (string_bytes c.documentation) last comma)))
+
+-- Another range of a diagnostic, before what each has.
+related_comma : (uri : List ℕ) (related : Option Related) → members_text true (with_related uri related sure_data) ≡ 44 ∷ members_text false (with_related uri related sure_data)
+related_comma uri None = refl
+related_comma uri (Some r) = refl
+
+related_written : (uri : List ℕ) (related : Option Related) → related_text uri related ++ codes "\"severity\":1,\"source\":\"just\"}" ≡ members_text false (with_related uri related sure_data)
+unfolding serde_json_on_literals digits
+related_written uri None = refl
+related_written uri (Some r) =
+    let sure = codes "\"severity\":1,\"source\":\"just\"}" in
+    let it = compact_text (related_data uri r) in
+    ap (λ (t : List ℕ). codes "\"relatedInformation\":[" ++ t) (append_assoc it (codes "],") sure ∙ sym (append_assoc it (93 ∷ []) (44 ∷ sure)))
+
+abbrev middle_members : (uri : List ℕ) → Diagnostic → Members
+middle_members uri d = member (codes "message") (text_data (string_bytes d.message)) (member (codes "range") (range_data d.range) (with_related uri d.related sure_data))
+
+middle_written : (uri : List ℕ) (d : Diagnostic)
+    → codes "\"message\":" ++ (compact_text (text_data (string_bytes d.message)) ++ (codes ",\"range\":" ++ (compact_text (range_data d.range) ++ (44 ∷ members_text false (with_related uri d.related sure_data)))))
+    ≡ members_text false (middle_members uri d)
+unfolding serde_json_on_literals
+middle_written uri d =
+    ap (λ (t : List ℕ). codes "\"message\":" ++ (compact_text (text_data (string_bytes d.message)) ++ (codes ",\"range\":" ++ (compact_text (range_data d.range) ++ t)))) (sym (related_comma uri d.related))
+
+-- what is wrong in a range
+pub diagnosed : (uri : List ℕ) (d : Diagnostic) (code message range related : List ℕ) → code ≡ optional_text (codes "code") d.code.now → message ≡ compact_text (text_data (string_bytes d.message))
+    → range ≡ compact_text (range_data d.range) → related ≡ related_text uri d.related
+    → codes "{" ++ (code ++ (codes "\"message\":" ++ (message ++ (codes ",\"range\":" ++ (range ++ (codes "," ++ (related ++ codes "\"severity\":1,\"source\":\"just\"}")))))))
+    ≡ compact_text (diagnostic_data uri d)
+diagnosed uri d code message range related c m r o =
+    let sure = codes "\"severity\":1,\"source\":\"just\"}" in
+    let first = optional_text (codes "code") d.code.now in
+    let text = compact_text (text_data (string_bytes d.message)) in
+    let place = compact_text (range_data d.range) in
+    let middle = middle_members uri d in
+    let comma : HasComma middle = refl in
+    ap (λ (t : List ℕ). 123 ∷ (t ++ (codes "\"message\":" ++ (message ++ (codes ",\"range\":" ++ (range ++ (codes "," ++ (related ++ sure)))))))) c
+    ∙ ap (λ (t : List ℕ). 123 ∷ (first ++ (codes "\"message\":" ++ (t ++ (codes ",\"range\":" ++ (range ++ (codes "," ++ (related ++ sure)))))))) m
+    ∙ ap (λ (t : List ℕ). 123 ∷ (first ++ (codes "\"message\":" ++ (text ++ (codes ",\"range\":" ++ (t ++ (codes "," ++ (related ++ sure)))))))) r
+    ∙ ap (λ (t : List ℕ). 123 ∷ (first ++ (codes "\"message\":" ++ (text ++ (codes ",\"range\":" ++ (place ++ (44 ∷ (t ++ sure)))))))) o
+    ∙ ap (λ (t : List ℕ). 123 ∷ (first ++ (codes "\"message\":" ++ (text ++ (codes ",\"range\":" ++ (place ++ (44 ∷ t))))))) (related_written uri d.related)
+    ∙ ap (λ (t : List ℕ). 123 ∷ (first ++ t)) (middle_written uri d)
+    ∙ ap (λ (t : List ℕ). 123 ∷ t) (sym (with_optional (codes "code") d.code.now middle comma))

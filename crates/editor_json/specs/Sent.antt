@@ -19,6 +19,7 @@ use Rattle.editor_messages.specs.declared.answer.Fold.{Fold}
 use Rattle.editor_messages.specs.declared.answer.Highlight.{Highlight}
 use Rattle.editor_messages.specs.declared.answer.Hover.{Hover}
 use Rattle.editor_messages.specs.declared.answer.Link.{Link}
+use Rattle.editor_messages.specs.declared.answer.Related.{Related}
 use Rattle.editor_messages.specs.declared.answer.Symbol.{Symbol}
 use Rattle.editor_messages.specs.declared.error_code.ErrorCode.{ErrorCode}
 use Rattle.editor_messages.specs.declared.message.Id.{Id}
@@ -44,16 +45,47 @@ position_data p = object (member (codes "character") (count_data p.column) (memb
 abbrev pub range_data : Range → Data
 range_data r = object (member (codes "end") (position_data r.end) (member (codes "start") (position_data r.start) no_members))
 
+abbrev pub place_data : (uri : List ℕ) → Range → Data
+place_data uri r = object (member (codes "range") (range_data r) (member (codes "uri") (text_data uri) no_members))
+
+-- a member with a text before others, if the text isn't empty
+abbrev pub optional : (key text : List ℕ) → Members → Members
+optional key [] others = others
+optional key (c ∷ text) others = member key (text_data (c ∷ text)) others
+
+-- its text with the comma after it
+abbrev pub optional_text : (key text : List ℕ) → List ℕ
+optional_text key [] = []
+optional_text key (c ∷ text) = compact_text (text_data key) ++ 58 ∷ (compact_text (text_data (c ∷ text)) ++ 44 ∷ [])
+
+-- another range that a diagnostic is about, in the same document
+abbrev pub related_data : (uri : List ℕ) → Related → Data
+related_data uri r = object (member (codes "location") (place_data uri r.range) (member (codes "message") (text_data r.message.now) no_members))
+
+-- a member with the list of one before others, if there is one
+abbrev pub with_related : (uri : List ℕ) → Option Related → Members → Members
+with_related uri None others = others
+with_related uri (Some r) others = member (codes "relatedInformation") (array (item (related_data uri r) no_items)) others
+
+-- its text with the comma after it
+abbrev pub related_text : (uri : List ℕ) → Option Related → List ℕ
+related_text uri None = []
+related_text uri (Some r) = codes "\"relatedInformation\":[" ++ (compact_text (related_data uri r) ++ codes "],")
+
+-- the members of each diagnostic
+abbrev pub sure_data : Members
+sure_data = member (codes "severity") (count_data 1) (member (codes "source") (text_data (codes "just")) no_members)
+
 -- what is wrong in the document with an address, with the version of its text if it is named
-abbrev pub diagnostic_data : Diagnostic → Data
-diagnostic_data d = object (member (codes "message") (text_data (string_bytes d.message)) (member (codes "range") (range_data d.range) (member (codes "severity") (count_data 1) (member (codes "source") (text_data (codes "just")) no_members))))
+abbrev pub diagnostic_data : (uri : List ℕ) → Diagnostic → Data
+diagnostic_data uri d = object (optional (codes "code") d.code.now (member (codes "message") (text_data (string_bytes d.message)) (member (codes "range") (range_data d.range) (with_related uri d.related sure_data))))
 
 abbrev pub version_members : Option ℤ → Members
 version_members None = no_members
 version_members (Some version) = member (codes "version") (number (of_integer version)) no_members
 
 abbrev pub parameters_data : (uri : List ℕ) → (version : Option ℤ) → List Diagnostic → Data
-parameters_data uri version found = object (member (codes "diagnostics") (list_data diagnostic_data found) (member (codes "uri") (text_data uri) (version_members version)))
+parameters_data uri version found = object (member (codes "diagnostics") (list_data (diagnostic_data uri) found) (member (codes "uri") (text_data uri) (version_members version)))
 
 abbrev pub published_data : (uri : List ℕ) → (version : Option ℤ) → List Diagnostic → Data
 published_data uri version found = object (member (codes "jsonrpc") (text_data (codes "2.0")) (member (codes "method") (text_data (codes "textDocument/publishDiagnostics")) (member (codes "params") (parameters_data uri version found) no_members)))
@@ -82,21 +114,8 @@ put_data range new = object (member (codes "newText") (text_data new) (member (c
 abbrev pub edit_data : TextEdit → Data
 edit_data e = put_data e.range (string_bytes e.text)
 
-abbrev pub place_data : (uri : List ℕ) → Range → Data
-place_data uri r = object (member (codes "range") (range_data r) (member (codes "uri") (text_data uri) no_members))
-
 abbrev pub link_data : Link → Data
 link_data l = object (member (codes "range") (range_data l.range) (member (codes "target") (text_data (string_bytes l.target)) no_members))
-
--- a member with a text before others, if the text isn't empty
-abbrev pub optional : (key text : List ℕ) → Members → Members
-optional key [] others = others
-optional key (c ∷ text) others = member key (text_data (c ∷ text)) others
-
--- its text with the comma after it
-abbrev pub optional_text : (key text : List ℕ) → List ℕ
-optional_text key [] = []
-optional_text key (c ∷ text) = compact_text (text_data key) ++ 58 ∷ (compact_text (text_data (c ∷ text)) ++ 44 ∷ [])
 
 -- what can be written in place of a range
 abbrev pub completion_data : Range → Completion → Data

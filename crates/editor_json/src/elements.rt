@@ -2,12 +2,12 @@
 ghost use Rattle.std.specs.Prelude.{◌≡◌, IfOk, string_bytes};
 ghost use Rattle.serde_json.specs.View.{view};
 ghost use Rattle.serde_json.specs.Written.{compact_text};
-ghost use Rattle.editor_json.specs.Sent.{completion_data, count_data, diagnostic_data, edit_data, fold_data, highlight_data, link_data, optional_text, place_data, put_data, symbol_data};
+ghost use Rattle.editor_json.specs.Sent.{completion_data, count_data, diagnostic_data, edit_data, fold_data, highlight_data, link_data, optional_text, place_data, put_data, related_data, related_text, symbol_data};
 
 use crate::lists::Written;
-use crate::results::quoted;
+use crate::results::{quoted, range_text};
 use crate::values::{range_value, text_of};
-use editor_messages::{Completion, Diagnostic, Fold, Highlight, Link, Symbol};
+use editor_messages::{Completion, Diagnostic, Fold, Highlight, Link, Related, Symbol};
 use serde_json::{Value, json};
 use std::alloc::{AllocError, Global};
 use text_edits::{Range, TextEdit};
@@ -194,21 +194,48 @@ fn member_text(alloc: Global, key: &str, text: &str) -> Result<String, AllocErro
 }
 
 impl Written for Diagnostic {
-    type Shared = ();
+    // the address of the document
+    type Shared = String;
 
-    ghost written = { λ _. diagnostic_data };
+    ghost written = { λ uri. diagnostic_data (string_bytes uri) };
 
-    fn text(&self, alloc: Global, _shared: &()) -> Result<String, AllocError> {
-        let value = diagnostic_value(alloc, self)?;
-        text_of(alloc, &value)
+    fn text(&self, alloc: Global, uri: &String) -> Result<String, AllocError> {
+        diagnostic_text(alloc, self, uri.as_str())
     }
 }
 
-/// Returns what is wrong in a range.
-fn diagnostic_value(alloc: Global, diagnostic: &Diagnostic) -> Result<Value, AllocError>
-    ensures { IfOk result (λ v. view v ≡ diagnostic_data diagnostic.now) }
+/// Returns the text of what is wrong in a range of the document with an address.
+fn diagnostic_text(alloc: Global, diagnostic: &Diagnostic, uri: &str) -> Result<String, AllocError>
+    ensures { IfOk result (λ text.
+        string_bytes text ≡ compact_text (diagnostic_data uri.now diagnostic.now)) }
 {
-    let range = range_value(alloc, diagnostic.range)?;
-    let message = diagnostic.message.as_str();
-    json!(in alloc; {"range": range, "severity": 1u64, "source": "just", "message": message})
+    let code = member_text(alloc, "code", diagnostic.code)?;
+    let message = quoted(alloc, diagnostic.message.as_str())?;
+    let range = range_text(alloc, diagnostic.range)?;
+    let related = related_text(alloc, uri, diagnostic.related)?;
+    let text = format!(in alloc;
+        "{{{code}\"message\":{message},\"range\":{range},{related}\"severity\":1,\"source\":\"just\"}}"
+    )?;
+    Ok(text)
+}
+
+/// Returns the text of the member with another range of the document, before others, if there is one.
+fn related_text(alloc: Global, uri: &str, related: Option<Related>) -> Result<String, AllocError>
+    ensures { IfOk result (λ made. string_bytes made ≡ related_text uri.now related) }
+{
+    let Some(related) = related else {
+        return Ok(String::new(alloc));
+    };
+    let value = related_value(alloc, uri, related)?;
+    let place = text_of(alloc, &value)?;
+    let made = format!(in alloc; "\"relatedInformation\":[{place}],")?;
+    Ok(made)
+}
+
+/// Returns another range of the document.
+fn related_value(alloc: Global, uri: &str, related: Related) -> Result<Value, AllocError>
+    ensures { IfOk result (λ v. view v ≡ related_data uri.now related) }
+{
+    let place = place_value(alloc, uri, related.range)?;
+    json!(in alloc; {"location": place, "message": related.message})
 }

@@ -81,7 +81,7 @@ fn abilities_text(alloc: Global, encoding: Encoding) -> Result<String, AllocErro
 }
 
 /// Returns the text of a range.
-fn range_text(alloc: Global, range: Range) -> Result<String, AllocError>
+pub(crate) fn range_text(alloc: Global, range: Range) -> Result<String, AllocError>
     ensures { IfOk result (λ text. string_bytes text ≡ compact_text (range_data range)) }
 {
     let value = range_value(alloc, range)?;

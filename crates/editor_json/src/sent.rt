@@ -81,7 +81,8 @@ fn parameters_text(
     ensures { IfOk result (λ text.
         string_bytes text ≡ compact_text (parameters_data uri.now version diagnostics.now)) }
 {
-    let found = list_text(alloc, &(), diagnostics)?;
+    let shared = uri.to_string(alloc)?;
+    let found = list_text(alloc, &shared, diagnostics)?;
     let uri = quoted(alloc, uri)?;
     match version {
         Some(number) => {

@@ -4,9 +4,10 @@ ghost use Rattle.editor_language.specs.declared.mention.Mention.{Mention};
 ghost use Rattle.editor_language.specs.declared.parts.Analysis.{Analysis};
 ghost use Rattle.editor_language.specs.declared.parts.Choices.{Choices};
 ghost use Rattle.editor_language.specs.declared.parts.FileLink.{FileLink};
+ghost use Rattle.editor_language.specs.declared.parts.Finding.{Finding};
 
 use crate::mention::Mention;
-use crate::parts::{Analysis, Choices, Colored, FileLink, Part, Span};
+use crate::parts::{Analysis, Choices, Colored, FileLink, Finding, Part, Span};
 use std::alloc::{AllocError, Global};
 
 /// A language.
@@ -19,6 +20,9 @@ pub trait Language {
 
     /// This is known of the text.
     ghost knows: { List ℕ → Analysis → Type 0 };
+
+    /// These are the findings in the text of the document with the address, of which this is known.
+    ghost finds: { List ℕ → List ℕ → Analysis → List Finding → Type 0 };
 
     /// These are the mentions of names in the text of which this is known.
     ghost mentioned: { List ℕ → Analysis → List Mention → Type 0 };
@@ -55,6 +59,21 @@ pub trait Language {
         text: &str,
     ) -> Result<Analysis, AllocError>
         ensures { knows old_text.now old.now → IfOk result (knows text.now) };
+
+    /// Returns what is wrong with what a text says, beside the problems that are known: in the order
+    /// of the text, which is that of the document with an address.
+    ///
+    /// # Errors
+    ///
+    /// Memory ran out.
+    fn findings(
+        &self,
+        alloc: Global,
+        uri: &str,
+        text: &str,
+        analysis: &Analysis,
+    ) -> Result<Vec<Finding>, AllocError>
+        ensures { IfOk result (λ found. finds uri.now text.now analysis.now found.items) };
 
     /// Returns the formatted text of a text, if it has one.
     ///

@@ -19,6 +19,28 @@ pub struct Problem {
     pub message: String,
 }
 
+/// What is wrong with what a text says. The text can be read.
+#[derive(Drop)]
+pub struct Finding {
+    /// Where it is.
+    pub span: Span,
+    /// What is wrong.
+    pub message: String,
+    /// The name of its kind.
+    pub code: &'static str,
+    /// Another place that it is about, if there is one.
+    pub other: Option<OtherPlace>,
+}
+
+/// A place that a finding is about, too.
+#[derive(Clone, Copy)]
+pub struct OtherPlace {
+    /// The place.
+    pub span: Span,
+    /// What is there.
+    pub message: &'static str,
+}
+
 /// An item of a text.
 #[derive(Drop)]
 pub struct Item {

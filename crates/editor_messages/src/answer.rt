@@ -13,6 +13,19 @@ pub struct Diagnostic {
     pub range: Range,
     /// What is wrong.
     pub message: String,
+    /// The name of its kind. May be empty.
+    pub code: &'static str,
+    /// Another range that it is about, if there is one.
+    pub related: Option<Related>,
+}
+
+/// A range that something wrong is about, too.
+#[derive(Clone, Copy)]
+pub struct Related {
+    /// The range.
+    pub range: Range,
+    /// What is there.
+    pub message: &'static str,
 }
 
 /// A symbol of a document.

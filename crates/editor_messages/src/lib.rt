@@ -11,7 +11,7 @@ mod symbol_kind;
 
 pub use answer::{
     Answer, Completion, CompletionKind, Completions, Diagnostic, Fold, Highlight, Hover, Link,
-    Rename, Symbol,
+    Related, Rename, Symbol,
 };
 pub use change::{Change, changed_text};
 pub use error_code::ErrorCode;

@@ -12,9 +12,9 @@ use Rattle.editor_messages.specs.Changes.{AreApplied}
 use Rattle.editor_messages.specs.declared.answer.Diagnostic.{Diagnostic}
 use Rattle.editor_messages.specs.declared.change.Change.{Change}
 use Rattle.editor_language.specs.declared.parts.Analysis.{Analysis}
-use Rattle.editor_answers.specs.Ranges.{to_tell, told}
+use Rattle.editor_language.specs.declared.parts.Finding.{Finding}
 use Rattle.editor_server.specs.Changed.{AreKnown, DocumentMap, IsKnown, IsPut, IsStored}
-use Rattle.editor_server.specs.Model.{Changes, Closes, Forgets, Loses, LosesAll, Stores}
+use Rattle.editor_server.specs.Model.{Changes, Closes, Forgets, Loses, LosesAll, Stores, TellsAll}
 use Rattle.editor_server.specs.declared.documents.Document.{Document}
 use Rattle.editor_server.specs.declared.documents.Documents.{Documents}
 
@@ -50,17 +50,17 @@ module _ (knows : List ℕ → Analysis → Type 0) where
     known_stored d (Ok a) known put loses = known_after d known put
     known_stored d (Err e) known put loses = known_loses loses
 
-  module _ (encoding : Encoding) (uri : List ℕ) (old new : Documents) (d : Document) (fs : Vec Diagnostic) where
-    stores : (found : Vec Diagnostic) (text : List ℕ) → string_bytes d.text ≡ text → knows text d.analysis → map told fs.items ≡ map (to_tell encoding text) d.analysis.problems.items
-        → IsStored uri d old new → found ≡ fs → Stores knows encoding uri text old new found.items
-    stores found text is known tells put same = record { document = d; is_text = is; is_known = known; is_stored = put; tells = ap (λ (v : Vec Diagnostic). map told v.items) same ∙ tells }
+  module _ (finds : List ℕ → List ℕ → Analysis → List Finding → Type 0) (encoding : Encoding) (uri : List ℕ) (old new : Documents) (d : Document) (fs : Vec Diagnostic) where
+    stores : (found : Vec Diagnostic) (text : List ℕ) → string_bytes d.text ≡ text → knows text d.analysis → TellsAll finds encoding uri text d.analysis fs.items
+        → IsStored uri d old new → found ≡ fs → Stores knows finds encoding uri text old new found.items
+    stores found text is known tells put same = record { document = d; is_text = is; is_known = known; is_stored = put; tells = subst (λ (v : Vec Diagnostic). TellsAll finds encoding uri text d.analysis v.items) (sym same) tells }
 
-    pub stored : {E : Type 0} (r : Result (Vec Diagnostic) E) (text : List ℕ) → string_bytes d.text ≡ text → knows text d.analysis → map told fs.items ≡ map (to_tell encoding text) d.analysis.problems.items
-        → OnOk r (IsStored uri d old new) → IfOk r (λ found. found ≡ fs) → IfOk r (λ found. Stores knows encoding uri text old new found.items)
+    pub stored : {E : Type 0} (r : Result (Vec Diagnostic) E) (text : List ℕ) → string_bytes d.text ≡ text → knows text d.analysis → TellsAll finds encoding uri text d.analysis fs.items
+        → OnOk r (IsStored uri d old new) → IfOk r (λ found. found ≡ fs) → IfOk r (λ found. Stores knows finds encoding uri text old new found.items)
     stored (Ok found) text is known tells put same = stores found text is known tells put same
     stored (Err e) text is known tells put same = tt
 
     pub stored_after : (changes : List Change) (at : Option Document) (before : Document) (found : Vec Diagnostic) → Some before ≡ at → AreApplied encoding (string_bytes before.text) changes (string_bytes d.text) → IsKnown knows d
-        → map told fs.items ≡ map (to_tell encoding (string_bytes d.text)) d.analysis.problems.items → IsStored uri d old new → found ≡ fs → Changes knows encoding uri changes at old new (Some found)
-    stored_after changes at before found e applied known tells put same = subst (λ o. Changes knows encoding uri changes o old new (Some found)) e
+        → TellsAll finds encoding uri (string_bytes d.text) d.analysis fs.items → IsStored uri d old new → found ≡ fs → Changes knows finds encoding uri changes at old new (Some found)
+    stored_after changes at before found e applied known tells put same = subst (λ o. Changes knows finds encoding uri changes o old new (Some found)) e
         (record { text = string_bytes d.text; is_after = applied; stores = stores found (string_bytes d.text) (λ _. string_bytes d.text) known tells put same })

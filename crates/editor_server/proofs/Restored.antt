@@ -6,22 +6,23 @@ use Rattle.editor_messages.specs.Changes.{AreApplied}
 use Rattle.editor_messages.specs.declared.answer.Diagnostic.{Diagnostic}
 use Rattle.editor_messages.specs.declared.change.Change.{Change}
 use Rattle.editor_language.specs.declared.parts.Analysis.{Analysis}
+use Rattle.editor_language.specs.declared.parts.Finding.{Finding}
 use Rattle.editor_server.specs.Model.{Changes, Restores, Stores, is_restored}
 use Rattle.editor_server.specs.declared.documents.Document.{Document}
 use Rattle.editor_server.specs.declared.documents.Documents.{Documents}
 
-module _ (knows : List ℕ → Analysis → Type 0) (encoding : Encoding) (uri : List ℕ) (changes : List Change) (old new : Documents) where
-  pub restored : (is asked : Bool) (text : List ℕ) (found : Vec Diagnostic) → asked ≡ is → asked ≡ true → AreApplied encoding [] changes text → Stores knows encoding uri text old new found.items
-      → Restores knows encoding uri changes is old new (Some found)
+module _ (knows : List ℕ → Analysis → Type 0) (finds : List ℕ → List ℕ → Analysis → List Finding → Type 0) (encoding : Encoding) (uri : List ℕ) (changes : List Change) (old new : Documents) where
+  pub restored : (is asked : Bool) (text : List ℕ) (found : Vec Diagnostic) → asked ≡ is → asked ≡ true → AreApplied encoding [] changes text → Stores knows finds encoding uri text old new found.items
+      → Restores knows finds encoding uri changes is old new (Some found)
   restored is asked text found e t applied stores =
-      subst (λ b. Restores knows encoding uri changes b old new (Some found)) (sym t ∙ e) (record { text = text; is_after = applied; stores = stores })
+      subst (λ b. Restores knows finds encoding uri changes b old new (Some found)) (sym t ∙ e) (record { text = text; is_after = applied; stores = stores })
 
-  pub unrestored : (is asked : Bool) → asked ≡ is → asked ≡ false → new ≡ old → Restores knows encoding uri changes is old new None
-  unrestored is asked e f same = subst (λ b. Restores knows encoding uri changes b old new None) (sym f ∙ e) same
+  pub unrestored : (is asked : Bool) → asked ≡ is → asked ≡ false → new ≡ old → Restores knows finds encoding uri changes is old new None
+  unrestored is asked e f same = subst (λ b. Restores knows finds encoding uri changes b old new None) (sym f ∙ e) same
 
-  unheld_at : (at : Option Document) (found : Option (Vec Diagnostic)) → None ≡ at → Restores knows encoding uri changes (is_restored old.has_lost changes) old new found → Changes knows encoding uri changes at old new found
-  unheld_at at found e h = subst (λ o. Changes knows encoding uri changes o old new found) e h
+  unheld_at : (at : Option Document) (found : Option (Vec Diagnostic)) → None ≡ at → Restores knows finds encoding uri changes (is_restored old.has_lost changes) old new found → Changes knows finds encoding uri changes at old new found
+  unheld_at at found e h = subst (λ o. Changes knows finds encoding uri changes o old new found) e h
 
-  pub unheld : {E : Type 0} (r : Result (Option (Vec Diagnostic)) E) (at : Option Document) → None ≡ at → IfOk r (Restores knows encoding uri changes (is_restored old.has_lost changes) old new) → IfOk r (Changes knows encoding uri changes at old new)
+  pub unheld : {E : Type 0} (r : Result (Option (Vec Diagnostic)) E) (at : Option Document) → None ≡ at → IfOk r (Restores knows finds encoding uri changes (is_restored old.has_lost changes) old new) → IfOk r (Changes knows finds encoding uri changes at old new)
   unheld (Ok found) at e h = unheld_at at found e h
   unheld (Err x) at e h = tt

@@ -1,5 +1,5 @@
 -- The server over messages: its stage, its encoding, and its documents by their addresses.
-use Rattle.std.specs.Prelude.{◌≡◌, ℕ, ℤ, ◌&&◌, Bool, true, false, List, [], ◌∷◌, cond, map, Option, Some, None, string_bytes}
+use Rattle.std.specs.Prelude.{◌≡◌, ◌++◌, ℕ, ℤ, ◌&&◌, Bool, true, false, List, [], ◌∷◌, cond, map, Option, Some, None, string_bytes}
 use Rattle.std.specs.BTreeMap.{IsEmpty, get_by_text}
 use Rattle.std.specs.Global.{Vec}
 use Rattle.std.specs.Str.{bytes_eq}
@@ -22,8 +22,9 @@ use Rattle.editor_language.specs.declared.mention.Mention.{Mention}
 use Rattle.editor_language.specs.declared.parts.Analysis.{Analysis}
 use Rattle.editor_language.specs.declared.parts.Choices.{Choices}
 use Rattle.editor_language.specs.declared.parts.FileLink.{FileLink}
+use Rattle.editor_language.specs.declared.parts.Finding.{Finding}
 use Rattle.editor_answers.specs.Answers.{IsAnswer, IsRefused}
-use Rattle.editor_answers.specs.Ranges.{to_tell, told}
+use Rattle.editor_answers.specs.Ranges.{to_find, to_tell, told}
 use Rattle.editor_server.specs.Changed.{DocumentMap, IsStored}
 use Rattle.editor_server.specs.declared.documents.Document.{Document}
 use Rattle.editor_server.specs.declared.documents.Documents.{Documents}
@@ -51,19 +52,25 @@ pub record LosesAll (new : Documents) : Type 0 where
   pub none : IsEmpty new.list
   pub lost : new.has_lost ≡ true
 
+-- What is told of a text of which this is known: its problems, and then the findings in it.
+pub record TellsAll (finds : List ℕ → List ℕ → Analysis → List Finding → Type 0) (encoding : Encoding) (uri text : List ℕ) (analysis : Analysis) (found : List Diagnostic) : Type 0 where
+  pub findings : List Finding
+  pub are_findings : finds uri text analysis findings
+  pub tells : map told found ≡ map (to_tell encoding text) analysis.problems.items ++ map (to_find encoding text) findings
+
 -- a document with the text is at the address, nothing else changes, and what is found is all that is known to be wrong in the text
-pub record Stores (knows : List ℕ → Analysis → Type 0) (encoding : Encoding) (uri text : List ℕ) (old new : Documents) (found : List Diagnostic) : Type 0 where
+pub record Stores (knows : List ℕ → Analysis → Type 0) (finds : List ℕ → List ℕ → Analysis → List Finding → Type 0) (encoding : Encoding) (uri text : List ℕ) (old new : Documents) (found : List Diagnostic) : Type 0 where
   pub document : Document
   pub is_text : string_bytes document.text ≡ text
   pub is_known : knows text document.analysis
   pub is_stored : IsStored uri document old new
-  pub tells : map told found ≡ map (to_tell encoding text) document.analysis.problems.items
+  pub tells : TellsAll finds encoding uri text document.analysis found
 
 -- what the changes make of a text is stored
-pub record StoresAfter (knows : List ℕ → Analysis → Type 0) (encoding : Encoding) (uri : List ℕ) (changes : List Change) (before : List ℕ) (old new : Documents) (found : List Diagnostic) : Type 0 where
+pub record StoresAfter (knows : List ℕ → Analysis → Type 0) (finds : List ℕ → List ℕ → Analysis → List Finding → Type 0) (encoding : Encoding) (uri : List ℕ) (changes : List Change) (before : List ℕ) (old new : Documents) (found : List Diagnostic) : Type 0 where
   pub text : List ℕ
   pub is_after : AreApplied encoding before changes text
-  pub stores : Stores knows encoding uri text old new found
+  pub stores : Stores knows finds encoding uri text old new found
 
 abbrev pub begins_whole : List Change → Bool
 begins_whole [] = false
@@ -75,17 +82,17 @@ abbrev pub is_restored : (has_lost : Bool) → List Change → Bool
 is_restored has_lost changes = has_lost && begins_whole changes
 
 -- what changes make of a document that isn't held
-abbrev pub Restores : (knows : List ℕ → Analysis → Type 0) → Encoding → (uri : List ℕ) → List Change → (restored : Bool) → (old new : Documents) → Option (Vec Diagnostic) → Type 0
-Restores knows encoding uri changes true old new (Some found) = StoresAfter knows encoding uri changes [] old new found.items
-Restores knows encoding uri changes false old new None = new ≡ old
-Restores knows encoding uri changes true old new None = ⊥
-Restores knows encoding uri changes false old new (Some found) = ⊥
+abbrev pub Restores : (knows : List ℕ → Analysis → Type 0) → (finds : List ℕ → List ℕ → Analysis → List Finding → Type 0) → Encoding → (uri : List ℕ) → List Change → (restored : Bool) → (old new : Documents) → Option (Vec Diagnostic) → Type 0
+Restores knows finds encoding uri changes true old new (Some found) = StoresAfter knows finds encoding uri changes [] old new found.items
+Restores knows finds encoding uri changes false old new None = new ≡ old
+Restores knows finds encoding uri changes true old new None = ⊥
+Restores knows finds encoding uri changes false old new (Some found) = ⊥
 
 -- what the changes make of the document's text is stored
-abbrev pub Changes : (knows : List ℕ → Analysis → Type 0) → Encoding → (uri : List ℕ) → List Change → (before : Option Document) → (old new : Documents) → Option (Vec Diagnostic) → Type 0
-Changes knows encoding uri changes (Some d) old new (Some found) = StoresAfter knows encoding uri changes (string_bytes d.text) old new found.items
-Changes knows encoding uri changes (Some d) old new None = ⊥
-Changes knows encoding uri changes None old new found = Restores knows encoding uri changes (is_restored old.has_lost changes) old new found
+abbrev pub Changes : (knows : List ℕ → Analysis → Type 0) → (finds : List ℕ → List ℕ → Analysis → List Finding → Type 0) → Encoding → (uri : List ℕ) → List Change → (before : Option Document) → (old new : Documents) → Option (Vec Diagnostic) → Type 0
+Changes knows finds encoding uri changes (Some d) old new (Some found) = StoresAfter knows finds encoding uri changes (string_bytes d.text) old new found.items
+Changes knows finds encoding uri changes (Some d) old new None = ⊥
+Changes knows finds encoding uri changes None old new found = Restores knows finds encoding uri changes (is_restored old.has_lost changes) old new found
 
 -- why a document that isn't held can't be asked about: its text isn't known, or it isn't open
 abbrev pub absence : (has_lost : Bool) → ErrorCode
@@ -154,15 +161,15 @@ TellsOf uri version changed reactions.Silent = changed None
 TellsOf uri version changed other = ⊥
 
 -- what is done after something was told
-abbrev pub Notes : (knows : List ℕ → Analysis → Type 0) → Stage → Encoding → Notification → (old new : Documents) → Reaction → Type 0
-Notes knows ShutDown encoding told_of.Exit old new reaction = (new ≡ old) × (reaction ≡ reactions.Exit 0)
-Notes knows stage encoding told_of.Exit old new reaction = (new ≡ old) × (reaction ≡ reactions.Exit 1)
-Notes knows Working encoding (told_of.Open uri version text) old new reaction = Publishes uri.now version (Stores knows encoding uri.now text.now old new) reaction
-Notes knows Working encoding (told_of.Change uri version changes) old new reaction = TellsOf uri.now version (Changes knows encoding uri.now changes.items (get_by_text old.list uri.now) old new) reaction
-Notes knows Working encoding (told_of.Close uri) old new reaction = Publishes uri.now None (λ found. (found ≡ []) × Closes uri.now old new) reaction
-Notes knows Working encoding (told_of.Unclear (Some uri)) old new reaction = Publishes uri.now None (λ found. (found ≡ []) × Loses uri.now old new) reaction
-Notes knows Working encoding (told_of.Unclear None) old new reaction = LosesAll new × (reaction ≡ reactions.Silent)
-Notes knows stage encoding other old new reaction = (new ≡ old) × (reaction ≡ reactions.Silent)
+abbrev pub Notes : (knows : List ℕ → Analysis → Type 0) → (finds : List ℕ → List ℕ → Analysis → List Finding → Type 0) → Stage → Encoding → Notification → (old new : Documents) → Reaction → Type 0
+Notes knows finds ShutDown encoding told_of.Exit old new reaction = (new ≡ old) × (reaction ≡ reactions.Exit 0)
+Notes knows finds stage encoding told_of.Exit old new reaction = (new ≡ old) × (reaction ≡ reactions.Exit 1)
+Notes knows finds Working encoding (told_of.Open uri version text) old new reaction = Publishes uri.now version (Stores knows finds encoding uri.now text.now old new) reaction
+Notes knows finds Working encoding (told_of.Change uri version changes) old new reaction = TellsOf uri.now version (Changes knows finds encoding uri.now changes.items (get_by_text old.list uri.now) old new) reaction
+Notes knows finds Working encoding (told_of.Close uri) old new reaction = Publishes uri.now None (λ found. (found ≡ []) × Closes uri.now old new) reaction
+Notes knows finds Working encoding (told_of.Unclear (Some uri)) old new reaction = Publishes uri.now None (λ found. (found ≡ []) × Loses uri.now old new) reaction
+Notes knows finds Working encoding (told_of.Unclear None) old new reaction = LosesAll new × (reaction ≡ reactions.Silent)
+Notes knows finds stage encoding other old new reaction = (new ≡ old) × (reaction ≡ reactions.Silent)
 
 -- memory ran out: the text of the document that was told of isn't known, and no other one is lost
 abbrev pub LeavesOnError : Stage → Notification → (old new : Documents) → Type 0

@@ -1,11 +1,10 @@
 //! The open documents.
-ghost use Rattle.std.specs.Prelude.{◌≡◌, ℕ, List, IfOk, OnErr, OnOk, false, map, string_bytes};
+ghost use Rattle.std.specs.Prelude.{◌≡◌, ℕ, List, IfOk, OnErr, OnOk, false, string_bytes};
 ghost use Rattle.std.specs.Option.{option_copied};
 ghost use Rattle.std.specs.BTreeMap.{IsEmpty, IsUnchanged, get_by_text};
 ghost use Rattle.editor_messages.specs.Changes.{AreApplied};
-ghost use Rattle.editor_answers.specs.Ranges.{to_tell, told};
 ghost use Rattle.editor_server.specs.Changed.{AreKnown, IsKnown, IsStored};
-ghost use Rattle.editor_server.specs.Model.{Changes, Closes, Loses, LosesAll, Restores, Stores, begins_whole, is_restored};
+ghost use Rattle.editor_server.specs.Model.{Changes, Closes, Loses, LosesAll, Restores, Stores, TellsAll, begins_whole, is_restored};
 
 use editor_answers::diagnostics;
 use editor_language::{Analysis, Language};
@@ -73,12 +72,12 @@ impl Documents {
         text: &str,
     ) -> Result<Vec<Diagnostic>, AllocError>
         requires { AreKnown L.knows self.old.list }
-        ensures ok { IfOk result (λ found. Stores L.knows encoding uri.now text.now
+        ensures ok { IfOk result (λ found. Stores L.knows L.finds encoding uri.now text.now
             self.old self.new found.items) }
         ensures failed { OnErr result (Loses uri.now self.old self.new) }
         ensures known { AreKnown L.knows self.new.list }
     {
-        match opened_document(alloc, language, encoding, text) {
+        match opened_document(alloc, language, encoding, uri, text) {
             Ok(opened) => self.store(alloc, uri, opened),
             Err(_) => {
                 self.lose(uri);
@@ -131,7 +130,7 @@ impl Documents {
         changes: &[Change<'_>],
     ) -> Result<Option<Vec<Diagnostic>>, AllocError>
         requires { AreKnown L.knows self.old.list }
-        ensures ok { IfOk result (Changes L.knows encoding uri.now changes.now
+        ensures ok { IfOk result (Changes L.knows L.finds encoding uri.now changes.now
             (get_by_text self.old.list uri.now) self.old self.new) }
         ensures failed { OnErr result (Loses uri.now self.old self.new) }
         ensures known { AreKnown L.knows self.new.list }
@@ -139,7 +138,7 @@ impl Documents {
         let Some(document) = self.get(uri) else {
             return self.restore(alloc, language, encoding, uri, changes);
         };
-        match changed_document(alloc, language, encoding, document, changes) {
+        match changed_document(alloc, language, encoding, uri, document, changes) {
             Ok(changed) => Ok(Some(self.store(alloc, uri, changed)?)),
             Err(_) => {
                 self.lose(uri);
@@ -164,7 +163,7 @@ impl Documents {
         changes: &[Change<'_>],
     ) -> Result<Option<Vec<Diagnostic>>, AllocError>
         requires { AreKnown L.knows self.old.list }
-        ensures ok { IfOk result (Restores L.knows encoding uri.now changes.now
+        ensures ok { IfOk result (Restores L.knows L.finds encoding uri.now changes.now
             (is_restored self.old.has_lost changes.now) self.old self.new) }
         ensures failed { OnErr result (Loses uri.now self.old self.new) }
         ensures known { AreKnown L.knows self.new.list }
@@ -227,15 +226,16 @@ fn opened_document<L: Language>(
     alloc: Global,
     language: &L,
     encoding: Encoding,
+    uri: &str,
     text: &str,
 ) -> Result<Told, AllocError>
     ensures text { IfOk result (λ told. string_bytes told.document.text ≡ text.now) }
     ensures known { IfOk result (λ told. L.knows text.now told.document.analysis) }
-    ensures tells { IfOk result (λ opened. map told opened.found.items
-        ≡ map (to_tell encoding text.now) opened.document.analysis.problems.items) }
+    ensures tells { IfOk result (λ opened. TellsAll L.finds encoding uri.now text.now
+        opened.document.analysis opened.found.items) }
 {
     let analysis = language.analysis(alloc, text)?;
-    let found = diagnostics(alloc, encoding, text, &analysis.problems)?;
+    let found = found_in(alloc, language, encoding, uri, text, &analysis)?;
     let text = String::from_str(alloc, text)?;
     Ok(Told {
         document: Document { text, analysis },
@@ -248,6 +248,7 @@ fn changed_document<L: Language>(
     alloc: Global,
     language: &L,
     encoding: Encoding,
+    uri: &str,
     document: &Document,
     changes: &[Change<'_>],
 ) -> Result<Told, AllocError>
@@ -255,16 +256,31 @@ fn changed_document<L: Language>(
     ensures applied { IfOk result (λ changed. AreApplied encoding
         (string_bytes document.now.text) changes.now (string_bytes changed.document.text)) }
     ensures known { IfOk result (λ changed. IsKnown L.knows changed.document) }
-    ensures tells { IfOk result (λ changed. map told changed.found.items
-        ≡ map (to_tell encoding (string_bytes changed.document.text))
-        changed.document.analysis.problems.items) }
+    ensures tells { IfOk result (λ changed. TellsAll L.finds encoding uri.now
+        (string_bytes changed.document.text) changed.document.analysis changed.found.items) }
 {
     let old = document.text.as_str();
     let text = changed_text(alloc, encoding, old, changes)?;
     let analysis = language.analysis_after(alloc, old, &document.analysis, text.as_str())?;
-    let found = diagnostics(alloc, encoding, text.as_str(), &analysis.problems)?;
+    let found = found_in(alloc, language, encoding, uri, text.as_str(), &analysis)?;
     Ok(Told {
         document: Document { text, analysis },
         found,
     })
+}
+
+/// Returns what is told of a text of which this is known: its problems, and then the findings in it.
+fn found_in<L: Language>(
+    alloc: Global,
+    language: &L,
+    encoding: Encoding,
+    uri: &str,
+    text: &str,
+    analysis: &Analysis,
+) -> Result<Vec<Diagnostic>, AllocError>
+    ensures { IfOk result (λ found. TellsAll L.finds encoding uri.now text.now analysis.now
+        found.items) }
+{
+    let findings = language.findings(alloc, uri, text, analysis)?;
+    diagnostics(alloc, encoding, text, &analysis.problems, &findings)
 }

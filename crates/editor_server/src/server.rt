@@ -56,9 +56,9 @@ impl Server {
         body: &[u8],
     ) -> Result<Sent, AllocError>
         requires { AreKnown L.knows self.old.documents.list }
-        ensures ok { IfOk result (Answered L.knows L.mentioned L.formats L.unformatted L.names
+        ensures ok { IfOk result (Answered L.knows L.finds L.mentioned L.formats L.unformatted L.names
             L.linked L.completed body.now self.old self.new) }
-        ensures failed { OnErr result (FailsAt L.knows L.mentioned L.formats L.unformatted
+        ensures failed { OnErr result (FailsAt L.knows L.finds L.mentioned L.formats L.unformatted
             L.names L.linked L.completed body.now self.old self.new) }
         ensures known { AreKnown L.knows self.new.documents.list }
     {
@@ -80,9 +80,9 @@ impl Server {
         value: &Option<Value>,
     ) -> Result<Sent, AllocError>
         requires { AreKnown L.knows self.old.documents.list }
-        ensures ok { IfOk result (HandlesParsed L.knows L.mentioned L.formats L.unformatted
+        ensures ok { IfOk result (HandlesParsed L.knows L.finds L.mentioned L.formats L.unformatted
             L.names L.linked L.completed value.now self.old self.new) }
-        ensures failed { OnErr result (UnansweredParsed L.knows L.mentioned L.formats
+        ensures failed { OnErr result (UnansweredParsed L.knows L.finds L.mentioned L.formats
             L.unformatted L.names L.linked L.completed value.now self.old self.new) }
         ensures known { AreKnown L.knows self.new.documents.list }
     {
@@ -101,9 +101,9 @@ impl Server {
         value: &Value,
     ) -> Result<Sent, AllocError>
         requires { AreKnown L.knows self.old.documents.list }
-        ensures ok { IfOk result (Handles L.knows L.mentioned L.formats L.unformatted L.names
+        ensures ok { IfOk result (Handles L.knows L.finds L.mentioned L.formats L.unformatted L.names
             L.linked L.completed (view value.now) self.old self.new) }
-        ensures failed { OnErr result (Unanswered L.knows L.mentioned L.formats L.unformatted
+        ensures failed { OnErr result (Unanswered L.knows L.finds L.mentioned L.formats L.unformatted
             L.names L.linked L.completed (view value.now) self.old self.new) }
         ensures known { AreKnown L.knows self.new.documents.list }
     {
@@ -143,7 +143,7 @@ impl Server {
         message: Message<'a>,
     ) -> Result<Reaction<'a>, AllocError>
         requires { AreKnown L.knows self.old.documents.list }
-        ensures ok { IfOk result (Reacts L.knows L.mentioned L.formats L.unformatted L.names
+        ensures ok { IfOk result (Reacts L.knows L.finds L.mentioned L.formats L.unformatted L.names
             L.linked L.completed message.entry self.old self.new) }
         ensures failed { OnErr result (Fails message.entry self.old self.new) }
         ensures known { AreKnown L.knows self.new.documents.list }
@@ -295,7 +295,7 @@ impl Server {
         requires { AreKnown L.knows self.old.documents.list }
         ensures stage { self.new.stage ≡ self.old.stage }
         ensures encoding { self.new.encoding ≡ self.old.encoding }
-        ensures ok { IfOk result (Notes L.knows self.old.stage self.old.encoding told.entry
+        ensures ok { IfOk result (Notes L.knows L.finds self.old.stage self.old.encoding told.entry
             self.old.documents self.new.documents) }
         ensures failed { OnErr result (LeavesOnError self.old.stage told.entry
             self.old.documents self.new.documents) }
@@ -320,7 +320,7 @@ impl Server {
         requires working { self.old.stage ≡ Working }
         ensures stage { self.new.stage ≡ self.old.stage }
         ensures encoding { self.new.encoding ≡ self.old.encoding }
-        ensures ok { IfOk result (Notes L.knows self.old.stage self.old.encoding told.entry
+        ensures ok { IfOk result (Notes L.knows L.finds self.old.stage self.old.encoding told.entry
             self.old.documents self.new.documents) }
         ensures failed { OnErr result (LeavesOnError self.old.stage told.entry
             self.old.documents self.new.documents) }
@@ -361,7 +361,7 @@ impl Server {
         requires { AreKnown L.knows self.old.documents.list }
         ensures stage { self.new.stage ≡ self.old.stage }
         ensures encoding { self.new.encoding ≡ self.old.encoding }
-        ensures ok { IfOk result (Publishes uri.now version (Stores L.knows self.old.encoding
+        ensures ok { IfOk result (Publishes uri.now version (Stores L.knows L.finds self.old.encoding
             uri.now text.now self.old.documents self.new.documents)) }
         ensures failed { OnErr result (Loses uri.now self.old.documents self.new.documents) }
         ensures known { AreKnown L.knows self.new.documents.list }
@@ -383,7 +383,7 @@ impl Server {
         requires { AreKnown L.knows self.old.documents.list }
         ensures stage { self.new.stage ≡ self.old.stage }
         ensures encoding { self.new.encoding ≡ self.old.encoding }
-        ensures ok { IfOk result (TellsOf uri.now version (Changes L.knows self.old.encoding
+        ensures ok { IfOk result (TellsOf uri.now version (Changes L.knows L.finds self.old.encoding
             uri.now changes.now (get_by_text self.old.documents.list uri.now)
             self.old.documents self.new.documents)) }
         ensures failed { OnErr result (Loses uri.now self.old.documents self.new.documents) }
