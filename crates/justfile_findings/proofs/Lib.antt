@@ -1,0 +1,2 @@
+pub mod AllTold
+pub mod FirstNear

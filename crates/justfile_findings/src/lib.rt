@@ -1,0 +1,10 @@
+//! What is wrong with a justfile that can be parsed, as an editor is told it.
+#![tactic(auto)]
+
+mod codes;
+mod known;
+mod listing;
+mod near;
+mod told;
+
+pub use crate::listing::findings;

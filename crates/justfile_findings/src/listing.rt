@@ -1,0 +1,83 @@
+//! What is told of problems.
+ghost use Rattle.std.specs.Prelude.{◌≡◌, IfOk};
+ghost use Rattle.std.specs.List.{AllZip};
+ghost use Rattle.justfile_findings.specs.Findings.{AreFindings, Reports, Suggests};
+
+use crate::near::suggestion;
+use crate::told::told;
+use editor_language::Finding;
+use justfile_problems::{Definition, Problem, Use};
+use std::alloc::{AllocError, Global};
+
+/// For how many problems of a file a name is looked for that may be meant. Each takes a comparison with
+/// all names of the file, and who has more problems looks at the first ones.
+const SUGGESTED: usize = 16;
+
+/// Returns what an editor is told of problems of a file, in their order. The file has these definitions
+/// and uses of names.
+///
+/// # Errors
+///
+/// `AllocError` if memory runs out.
+#[tactic(auto, using(crate::proofs::AllTold::both))]
+pub fn findings<'src>(
+    alloc: Global,
+    problems: &[Problem<'src>],
+    definitions: &[Definition<'src>],
+    uses: &[Use<'src>],
+) -> Result<Vec<Finding>, AllocError>
+    ensures { IfOk result (λ found.
+        AreFindings definitions.now uses.now problems.now found.items) }
+{
+    let (first, others) = problems.split_at(SUGGESTED.min(problems.len()));
+    let mut found = suggesting(alloc, definitions, uses, first)?;
+    let mut rest = plain(alloc, others)?;
+    found.append(&mut rest)?;
+    Ok(found)
+}
+
+/// Returns what is told of problems, with the names that may be meant.
+#[tactic(auto, using(crate::proofs::AllTold::one_more))]
+fn suggesting<'src>(
+    alloc: Global,
+    definitions: &[Definition<'src>],
+    uses: &[Use<'src>],
+    problems: &[Problem<'src>],
+) -> Result<Vec<Finding>, AllocError>
+    ensures { IfOk result (λ found. AllZip (Suggests definitions.now uses.now)
+        problems.now found.items) }
+{
+    let mut found = Vec::new(alloc);
+    for problem in problems {
+        let finding = suggested(alloc, definitions, uses, problem)?;
+        found.push(finding)?;
+    }
+    Ok(found)
+}
+
+/// Returns what is told of a problem, with the name that may be meant.
+#[tactic(auto, using(crate::proofs::AllTold::renamed))]
+fn suggested<'src>(
+    alloc: Global,
+    definitions: &[Definition<'src>],
+    uses: &[Use<'src>],
+    problem: &Problem<'src>,
+) -> Result<Finding, AllocError>
+    ensures { IfOk result (Suggests definitions.now uses.now problem.now) }
+{
+    let suggestion = suggestion(alloc, definitions, uses, problem)?;
+    told(alloc, problem, suggestion)
+}
+
+/// Returns what is told of problems, without names that may be meant.
+#[tactic(auto, using(crate::proofs::AllTold::one_more))]
+fn plain(alloc: Global, problems: &[Problem<'_>]) -> Result<Vec<Finding>, AllocError>
+    ensures { IfOk result (λ found. AllZip Reports problems.now found.items) }
+{
+    let mut found = Vec::new(alloc);
+    for problem in problems {
+        let finding = told(alloc, problem, None)?;
+        found.push(finding)?;
+    }
+    Ok(found)
+}
