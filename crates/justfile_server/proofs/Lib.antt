@@ -1,3 +1,4 @@
+pub mod FindingsOfFile
 pub mod Firsts
 pub mod Given
 pub mod ItemMentions

@@ -1,4 +1,5 @@
 pub mod Choices
+pub mod Findings
 pub mod Links
 pub mod Mentioned
 pub mod Modules

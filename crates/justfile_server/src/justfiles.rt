@@ -4,17 +4,21 @@ ghost use Rattle.justfile_canonical.specs.Formatting.{HasNone, IsFormatted, Lack
 ghost use Rattle.justfile_mentions.specs.Names.{IsName};
 ghost use Rattle.justfile_analysis.specs.Knowledge.{Knows};
 ghost use Rattle.justfile_server.specs.Choices.{AreChoices};
+ghost use Rattle.justfile_server.specs.Findings.{AreFound};
 ghost use Rattle.justfile_server.specs.Links.{IsPathOf, Links};
 ghost use Rattle.justfile_server.specs.Mentioned.{Mentioned};
 
 use crate::choices::choices_at;
 use crate::chunk::description_of;
 use crate::colors::colors_of;
+use crate::findings::findings_of;
 use crate::links::links_of;
 use crate::mentions::mentions_of;
 use crate::modules::Folders;
 use crate::ranges::formatted_in;
-use editor_language::{Analysis, Choices, Colored, FileLink, Language, Mention, Part, Span};
+use editor_language::{
+    Analysis, Choices, Colored, FileLink, Finding, Language, Mention, Part, Span,
+};
 use justfile_analysis::{analysis_after, analysis_of};
 use justfile_canonical::fault::FormatFault;
 use justfile_canonical::formatting::format_text;
@@ -34,6 +38,9 @@ impl<F: Folders> Language for Justfiles<'_, F> {
     ghost unformatted = { λ text. HasNone text ⊎ LacksNumbers text };
 
     ghost knows = { Knows };
+
+    ghost finds = { λ uri text analysis found.
+        AreFound uri text analysis.problems.items found };
 
     ghost mentioned = { Mentioned };
 
@@ -56,6 +63,16 @@ impl<F: Folders> Language for Justfiles<'_, F> {
         text: &str,
     ) -> Result<Analysis, AllocError> {
         analysis_after(alloc, old_text, old, text)
+    }
+
+    fn findings(
+        &self,
+        alloc: Global,
+        uri: &str,
+        text: &str,
+        analysis: &Analysis,
+    ) -> Result<Vec<Finding>, AllocError> {
+        findings_of(alloc, uri, text, &analysis.problems)
     }
 
     #[tactic(auto, using(crate::proofs::Unformatted::no_justfile, crate::proofs::Unformatted::not_printable, crate::proofs::Unformatted::no_numbers))]

@@ -6,6 +6,7 @@ mod choices;
 mod chunk;
 mod colors;
 mod commit;
+mod findings;
 mod justfiles;
 mod links;
 mod mentions;

@@ -1,0 +1,33 @@
+-- What is told of a file.
+use Rattle.std.proofs.Common.{◌≡◌, ◌∙◌, Bool, List, Result, Ok, Err, IfOk, IsPermutation, ap, subst}
+use Rattle.std.specs.Global.{Vec}
+use Rattle.std.specs.List.{flat_map}
+use Rattle.std.specs.List.Sorted.{IsNonDecreasingBy}
+use Rattle.justfile_vocabulary.specs.declared.list_feature.ListFeature.{ListFeature}
+use Rattle.justfile_token.specs.declared.token.Token.{Token}
+use Rattle.justfile_item.specs.declared.item.Item.{Item}
+use Rattle.justfile_ast.specs.declared.ast.Ast.{Ast}
+use Rattle.justfile_problems.specs.declared.facts.Definition.{Definition}
+use Rattle.justfile_problems.specs.declared.facts.Use.{Use}
+use Rattle.justfile_problems.specs.declared.problem.Problem.{Problem}
+use Rattle.justfile_facts.specs.Definitions.{item_definitions}
+use Rattle.justfile_facts.specs.Facts.{AreFactsOf}
+use Rattle.justfile_facts.specs.Uses.{item_uses}
+use Rattle.justfile_facts.specs.declared.facts.Facts.{Facts}
+use Rattle.justfile_lint.specs.Lint.{problems_of}
+use Rattle.justfile_findings.specs.Findings.{AreFindings}
+use Rattle.editor_language.specs.declared.parts.Finding.{Finding}
+use Rattle.justfile_server.specs.Findings.{AreFindingsOf}
+
+pub of_file : {E : Type 0} (imported : Bool) (ast : Ast) (all : List Item) (features : List (ListFeature × Token)) (facts : Facts) (problems : List Problem) (r : Result (Vec Finding) E)
+    → AreFactsOf imported all features facts → all ≡ ast.items.items → IsPermutation (problems_of imported ast) problems → IsNonDecreasingBy (λ (p : Problem). p.token.offset) problems
+    → IfOk r (λ found. AreFindings facts.definitions.items facts.uses.items problems found.items) → IfOk r (λ found. AreFindingsOf imported ast found.items)
+of_file imported ast all features facts problems (Err e) are same permuted sorted told = tt
+of_file imported ast all features facts problems (Ok found) are same permuted sorted told = record {
+  problems = problems;
+  all = permuted;
+  in_order = sorted;
+  told =
+      subst (λ (ds : List Definition). AreFindings ds (flat_map item_uses ast.items.items) problems found.items) (are.definitions ∙ ap (flat_map item_definitions) same)
+      (subst (λ (us : List Use). AreFindings facts.definitions.items us problems found.items) (are.uses ∙ ap (flat_map item_uses) same) told);
+}
