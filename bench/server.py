@@ -4,8 +4,8 @@
 Edits a justfile at random, by ranges, in both encodings. After each edit what the server says of it must be what it
 says of the whole text of a document that was just opened, and at the end what a new server says. The formatting edits
 must lead to a text that has no more edits. Before that it sends what is no message, and asks again, follows links to
-files that are there, and asks what can be written at places of a justfile and what words and names mean. Prints a line for each part, and ends with 1
-at the first difference.
+files that are there, asks what can be written at places of a justfile and what words and names mean, and looks at
+what is told to be wrong with what justfiles say. Prints a line for each part, and ends with 1 at the first difference.
 """
 import json
 import random
@@ -193,6 +193,55 @@ HIGHLIGHTED = [
     ("n", "n + n", [True, False, False]),
     ("no name", "quiet", []),
 ]
+FINDINGS = [
+    # a justfile, the places of a finding between « and », and of what it is about between ‹ and ›; its code, its message,
+    # and what is at the other place
+    ("x := 'é𝄞' + «targt»\ntarget := 'a'\n", "UndefinedVariable", "variable `targt` not defined\nDid you mean `target`?", ""),
+    ("a target='é𝄞' b=«targt»:\n", "UndefinedVariable", "variable `targt` not defined\nDid you mean `target`?", ""),
+    ("a b=«targt» target='é𝄞':\n", "UndefinedVariable", "variable `targt` not defined", ""),
+    ("a target:\n    # é𝄞\n    echo é𝄞 {{ «targt» }}\n", "UndefinedVariable", "variable `targt` not defined\nDid you mean `target`?", ""),
+    ("a target:\nb:\n    echo {{ «targt» }}\n", "UndefinedVariable", "variable `targt` not defined", ""),
+    ("twice(value) := value + «valeu»\n", "UndefinedVariable", "variable `valeu` not defined", ""),
+    ("twice(values) := values + «valeus»\n", "UndefinedVariable", "variable `valeus` not defined\nDid you mean `values`?", ""),
+    ("ab := ''\nx := «ac»\n", "UndefinedVariable", "variable `ac` not defined", ""),
+    ("abcd := ''\nabc1 := ''\nabc2 := ''\nx := «abc3»\n", "UndefinedVariable", "variable `abc3` not defined\nDid you mean `abcd`?", ""),
+    ("abcdxy := ''\nabcdey := ''\nx := «abcdef»\n", "UndefinedVariable", "variable `abcdef` not defined\nDid you mean `abcdey`?", ""),
+    ("a" * 32 + "b := ''\nx := «" + "a" * 32 + "»\n", "UndefinedVariable", f"variable `{'a' * 32}` not defined\nDid you mean `{'a' * 32}b`?", ""),
+    ("a" * 33 + "b := ''\nx := «" + "a" * 33 + "»\n", "UndefinedVariable", f"variable `{'a' * 33}` not defined", ""),
+    ("x := «BULE»\n", "UndefinedVariable", "variable `BULE` not defined", ""),
+    ("x := «BLU»\n", "UndefinedVariable", "variable `BLU` not defined\nDid you mean `BLUE`?", ""),
+    ("x := 'é𝄞' + «uppercas»('a')\n", "UndefinedFunction", "call to undefined function `uppercas`\nDid you mean `uppercase`?", ""),
+    ("set unstable\nlouder(x) := x\ny := «loudre»('é')\n", "UndefinedFunction", "call to undefined function `loudre`\nDid you mean `louder`?", ""),
+    ("louder := ''\ny := «loude»('é')\n", "UndefinedFunction", "call to undefined function `loude`", ""),
+    ("x := 'é𝄞' + «env»()\n", "FunctionArgumentCountMismatch", "function `env` called with 0 arguments but takes 1 to 2", ""),
+    ("build: «tidi»\ntidy:\n", "UnknownDependency", "recipe `build` has unknown dependency `tidi`\nDid you mean `tidy`?", ""),
+    ("build: «tidi»\nalias tidy := build\n", "UnknownDependency", "recipe `build` has unknown dependency `tidi`\nDid you mean `tidy`?", ""),
+    ("build: «buil»\nbuilt := ''\n", "UnknownDependency", "recipe `build` has unknown dependency `buil`", ""),
+    ("new: («build» 'é')\nbuild:\n", "DependencyArgumentCountMismatch", "dependency `build` got 1 argument but takes 0 arguments", ""),
+    ("alias «b» := buildd\nbuild:\n", "UnknownAliasTarget", "alias `b` has an unknown target `buildd`\nDid you mean `build`?", ""),
+    ("alias «bild» := buld\n", "UnknownAliasTarget", "alias `bild` has an unknown target `buld`", ""),
+    ("‹x› := 'é𝄞'\n«x» := 'b'\n", "DuplicateVariable", "variable `x` has multiple definitions", "first defined here"),
+    ("‹a›:\n\n«a»:\n", "Redefinition", "recipe `a` first defined on line 1 is redefined on line 3", "first defined here"),
+    ("a ‹b› c='é𝄞' «b»='':\n", "DuplicateParameter", "recipe `a` has duplicate parameter `b`", "first defined here"),
+    ("f(‹x›, «x») := x\n", "DuplicateFunctionParameter", "function `f` has duplicate parameter `x`", "first defined here"),
+    ("set ‹quiet›\nset «quiet»\n", "DuplicateSet", "setting `quiet` first set on line 1 is redefined on line 2", "first set here"),
+    ("unexport ‹A›\nunexport «A»\n", "DuplicateUnexport", "variable `A` is unexported multiple times", "first unexported here"),
+    ("unexport ‹A›\nexport «A» := 'é'\n", "ExportUnexported", "variable A is both exported and unexported", "unexported here"),
+    ("a ‹b›='é𝄞' «c»:\n", "RequiredParameterFollowsDefaultParameter", "non-default parameter `c` follows default parameter", "the parameter with a default"),
+    ("[default]\n‹a›:\n[default]\n«b»:\n", "DuplicateDefault", "recipe `b` has duplicate `[default]` attribute, which may only appear once per module", "the first default recipe"),
+    ("a:\n  echo é𝄞\n  «  echo»\n", "ExtraLeadingWhitespace", "recipe line has extra leading whitespace", ""),
+]
+QUIET = [
+    # justfiles in which nothing is wrong, as far as it is known, each with its name
+    ("justfile", START),
+    ("justfile", NAMED),
+    ("justfile", "import 'a.just'\nx := y\n"),
+    ("a.just", "x := y\nalias b := c\nx := z\nd: e\n"),
+    ("justfile.just", "x := y\n"),
+    ("notjustfile", "x := y\n"),
+    ("justfile", "x := y\n#" + "é" * 65535 + "\n"),
+]
+NAMES = ["justfile", "Justfile", ".justfile", ".JUSTFILE", "mod.just"]  # of files that aren't imported
 QUERIES = ["documentSymbol", "foldingRange", "formatting", "documentLink", "semanticTokens/full"]
 
 
@@ -371,10 +420,11 @@ def edit_at_random(program, encoding, edits, chance):
             check(one == other, f"{query} is answered by {one} after changes from {before!r}, and by {other} of {text!r}")
         server.close(FRESH)
         random_request(server, text, encoding, chance)
-        errors += bool(found)
+        wrong = [told for told in found if "code" not in told]
+        errors += bool(wrong)
         changes = said[QUERIES.index("formatting")]
         if isinstance(changes, list):
-            check(not found, f"a text with errors is formatted: {text!r}")
+            check(not wrong, f"a text with errors is formatted: {text!r}")
             formatted += 1
             again = edited(text, changes, encoding)
             server.open(FRESH, again)
@@ -547,6 +597,68 @@ def explain(program, encoding):
     print(f"{encoding}: what is said of {len(EXPLAINED)} words and 3 names, and {len(HIGHLIGHTED)} names highlighted")
 
 
+def marked(text, encoding):
+    """Returns a text without marks, and the ranges that they are around."""
+    plain = text.translate(dict.fromkeys(map(ord, "«»‹›")))
+    ranges = []
+    for start, end in ("«»", "‹›"):
+        if start in text:
+            at = [len(text[: text.index(mark)].translate(dict.fromkeys(map(ord, "«»‹›")))) for mark in (start, end)]
+            ranges.append({"start": position(plain, at[0], encoding), "end": position(plain, at[1], encoding)})
+    return plain, *ranges
+
+
+def wanted_finding(text, code, message, beside, encoding, uri):
+    """Returns a text without marks, and what is to be told of it."""
+    plain, *ranges = marked(text, encoding)
+    wanted = {"range": ranges[0], "severity": 1, "source": "just", "code": code, "message": message}
+    if beside:
+        wanted["relatedInformation"] = [{"location": {"uri": uri, "range": ranges[1]}, "message": beside}]
+    return plain, wanted
+
+
+def tell_findings(program, encoding):
+    """Asks what is wrong with what justfiles say."""
+    server = Server(program, encoding)
+    server.open(DOCUMENT, "")
+    for text, *case in FINDINGS:
+        plain, wanted = wanted_finding(text, *case, encoding, DOCUMENT)
+        found = server.change(DOCUMENT, [{"text": plain}])
+        check(found == [wanted], f"of {plain!r} is told {found} and not {[wanted]}")
+        check(server.open(FRESH, plain)[0]["message"] == wanted["message"], f"of {plain!r} an opened document tells something else")
+        broken = server.change(DOCUMENT, [{"text": plain + "\n)\n"}])
+        check(len(broken) == 1 and "code" not in broken[0], f"of a text that can't be parsed is told {broken}")
+    texts = [wanted_finding(text, *case, encoding, DOCUMENT) for text, *case in (FINDINGS[0], FINDINGS[14])]
+    lines = texts[0][0].count("\n")
+    for side in texts[1][1]["range"].values():
+        side["line"] += lines
+    both = texts[0][0] + texts[1][0].replace("x", "z", 1)
+    found = server.change(DOCUMENT, [{"text": both}])
+    check(found == [wanted for _, wanted in texts], f"of two is told {found}")
+    for name in NAMES:
+        found = server.open(f"file:///work/{name}", "x := y\n")
+        check([told["code"] for told in found] == ["UndefinedVariable"], f"of {name} is told {found}")
+    for name, text in QUIET:
+        found = server.open(f"file:///work/{name}", text)
+        check(found == [], f"of {text[:60]!r} in {name} is told {found}")
+    found = server.open("file:///work/a.just", "a b b:\n")
+    check([told["code"] for told in found] == ["DuplicateParameter"], f"of an imported file is told {found}")
+    many = "target := ''\n" + "".join(f"x{at} := targt\n" for at in range(20))
+    found = server.change(DOCUMENT, [{"text": many}])
+    meant = [told["message"].endswith("Did you mean `target`?") for told in found]
+    check(meant == [True] * 16 + [False] * 4, f"of many is told {found}")
+    start, end = (position(many, many.index("target") + at, encoding) for at in (4, 5))
+    found = server.change(DOCUMENT, [{"range": {"start": start, "end": end}, "text": ""}])
+    check(found == [], f"of a text in which all is right now is told {found}")
+    long = "x" * 60000
+    found = server.change(DOCUMENT, [{"text": f"{long} := y{long}\n"}])
+    check([told["code"] for told in found] == ["UndefinedVariable"], "a long name isn't told")
+    found = server.change(DOCUMENT, [{"text": "a:" + " b" * 60000 + "\n"}])
+    check(len(found) == 60000, f"{len(found)} of many in a line are told")
+    check(server.end() == 0, "the status isn't 0")
+    print(f"{encoding}: {len(FINDINGS)} findings are told, and nothing where {len(QUIET)} texts may be right")
+
+
 def main():
     program = sys.argv[1]
     edits = int(sys.argv[2]) if len(sys.argv) > 2 else 1000
@@ -557,6 +669,7 @@ def main():
     for encoding in ("utf-8", "utf-16"):
         complete(program, encoding)
         explain(program, encoding)
+        tell_findings(program, encoding)
         edit_at_random(program, encoding, edits // 2, chance)
 
 
