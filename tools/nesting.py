@@ -126,13 +126,13 @@ def taken(form, level):
     return ["prints «%s»\n  «%s»" % (source, target)]
 
 
-def refused(form, level):
+def rejected(form, level):
     """The rows of the places that don't allow this many levels."""
     for place in PLACES:
         marked, written = nested(place, form, level)
         fault = refusal(marked)
         if fault is not None:
-            yield "refused «%s» ParsingRecursionDepthExceeded %d %d" % (written, *fault)
+            yield "rejected «%s» ParsingRecursionDepthExceeded %d %d" % (written, *fault)
 
 
 def main():
@@ -141,7 +141,7 @@ def main():
     for form in FORMS:
         print("\n# %s" % unmarked(form[0]).replace("E", "..").rstrip())
         for level in LEVELS:
-            for row in [*taken(form, level), *refused(form, level)]:
+            for row in [*taken(form, level), *rejected(form, level)]:
                 print(row)
 
 

@@ -31,7 +31,7 @@ pub fn serve<L: Language, R: BufRead, W: Write>(
     reader: &mut R,
     writer: &mut W,
 ) -> io::Result<u8>
-    ensures { IfOk result (λ status. IsServed L.knows L.mentioned L.formats L.unformatted L.names
+    ensures { IfOk result (λ status. IsServed L.knows L.finds L.mentioned L.formats L.unformatted L.names
         L.linked L.completed (R.remaining reader.old) (W.contents writer.old) status
         (R.remaining reader.new) (W.contents writer.new)) }
 {
@@ -56,7 +56,7 @@ fn answer<L: Language, W: Write>(
 ) -> io::Result<Option<u8>>
     requires { AreKnown L.knows server.old.documents.list }
     ensures known { AreKnown L.knows server.new.documents.list }
-    ensures takes { IfOk result (Takes L.knows L.mentioned L.formats L.unformatted L.names
+    ensures takes { IfOk result (Takes L.knows L.finds L.mentioned L.formats L.unformatted L.names
         L.linked L.completed received server.old server.new (W.contents writer.old)
         (W.contents writer.new)) }
 {
@@ -86,7 +86,7 @@ fn react<L: Language, W: Write>(
 ) -> io::Result<Option<u8>>
     requires { AreKnown L.knows server.old.documents.list }
     ensures known { AreKnown L.knows server.new.documents.list }
-    ensures handles { IfOk result (Handles L.knows L.mentioned L.formats L.unformatted L.names
+    ensures handles { IfOk result (Handles L.knows L.finds L.mentioned L.formats L.unformatted L.names
         L.linked L.completed body.now server.old server.new (W.contents writer.old)
         (W.contents writer.new)) }
 {

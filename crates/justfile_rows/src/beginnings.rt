@@ -58,5 +58,5 @@ pub(crate) fn beginnings(answer: &mut Answer, text: &str) {
     if beginning.finish().is_err() {
         answer.fail();
     }
-    answer.push(if is_whole { "file" } else { "refused" });
+    answer.push(if is_whole { "file" } else { "rejected" });
 }

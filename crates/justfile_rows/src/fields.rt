@@ -8,7 +8,7 @@ use row_notation::{field_at, is_indentation, is_number};
 pub(crate) fn are_readable(word: Word, fields: &[String]) -> bool {
     let first = field_at(fields, 0);
     match word {
-        Word::CanonicalUnder | Word::Line | Word::PrintsUnder | Word::RefusedUnder | Word::Roots =>
+        Word::CanonicalUnder | Word::Line | Word::PrintsUnder | Word::RejectedUnder | Word::Roots =>
             is_number(fields, 0),
         Word::Expands => Expansion::of(first).is_some(),
         Word::PrintsAt | Word::PrintsItem => is_indentation(fields, 0),

@@ -64,7 +64,7 @@ pub(crate) fn parse<'src>(
 /// Writes what a row's word asks for about a file.
 fn push_file(ast: &mut Ast<'_>, answer: &mut Answer, word: Word, fields: &[String]) {
     match word {
-        Word::Expected | Word::Message | Word::Refused | Word::RefusedUnder => {
+        Word::Expected | Word::Message | Word::Rejected | Word::RejectedUnder => {
             answer.push("taken");
         }
         Word::Features => features(answer, &ast.list_features),
@@ -276,7 +276,7 @@ fn expansion_of(word: Word, fields: &[String]) -> Expansion<'_> {
 /// Returns the limit of depth of a row.
 fn limit_of(word: Word, fields: &[String]) -> usize {
     match word {
-        Word::CanonicalUnder | Word::PrintsUnder | Word::RefusedUnder => {
+        Word::CanonicalUnder | Word::PrintsUnder | Word::RejectedUnder => {
             number_at(fields, 0) as usize
         }
         _ => RECURSION_LIMIT,
@@ -293,7 +293,7 @@ fn text_of(word: Word, fields: &[String]) -> &str {
         | Word::PrintsAt
         | Word::PrintsItem
         | Word::PrintsUnder
-        | Word::RefusedUnder
+        | Word::RejectedUnder
         | Word::Sigils => field_at(fields, 1),
         Word::Numbers | Word::Stops => field_at(fields, 2),
         _ => field_at(fields, 0),

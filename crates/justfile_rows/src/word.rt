@@ -16,7 +16,7 @@ pub(crate) enum Word {
     /// T: the attributes of the first item that has some, each with the offset of its name, and in
     /// ‹› its comment if it has one.
     Attributes,
-    /// `file` or `refused`, the pieces of T: each beginning of T is a file or rejected with an
+    /// `file` or `rejected`, the pieces of T: each beginning of T is a file or rejected with an
     /// error that isn't internal, and what each printable file prints at four spaces, two spaces
     /// and a tab prints as itself; T itself is a file or rejected.
     Beginnings,
@@ -45,7 +45,7 @@ pub(crate) enum Word {
     /// printed as.
     ExpandsTo,
     /// T: of an unexpected token the kinds that are expected in its place, and after `but` its
-    /// kind; of another error the fields of `refused`; `taken` if the text is a file.
+    /// kind; of another error the fields of `rejected`; `taken` if the text is a file.
     Expected,
     /// T: of each item the expressions of each attribute after its name, of all attributes after
     /// `attributes`, of the value of a setting after `value`, and of the whole item at every depth
@@ -106,9 +106,9 @@ pub(crate) enum Word {
     References,
     /// Or `exhausted`, T: the fields of `value`, with an expander that leaves texts, encloses them
     /// in `[]`, rejects them with `no`, or finds no memory (`memory`).
-    Refused,
-    /// Limit of depth, T: the fields of `refused`, under this limit.
-    RefusedUnder,
+    Rejected,
+    /// Limit of depth, T: the fields of `rejected`, under this limit.
+    RejectedUnder,
     /// Numbers of names in a context, as `a=1,b=2`, those of the bindings, T: of the expressions of
     /// the first item, at every depth, their variables with the numbers that they get from the
     /// bindings alone, from the context and the bindings, and from neither.
@@ -178,8 +178,8 @@ static WORDS: &[(&str, Word, usize)] = &[
     ("prints_under", Word::PrintsUnder, 2),
     ("recipe", Word::Recipe, 1),
     ("references", Word::References, 1),
-    ("refused", Word::Refused, 1),
-    ("refused_under", Word::RefusedUnder, 2),
+    ("rejected", Word::Rejected, 1),
+    ("rejected_under", Word::RejectedUnder, 2),
     ("resolves", Word::Resolves, 3),
     ("roots", Word::Roots, 2),
     ("scarcely", Word::Scarcely, 0),

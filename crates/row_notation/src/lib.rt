@@ -9,7 +9,7 @@ mod field_reader;
 mod fields;
 mod literal;
 mod names;
-mod refusal;
+mod rejection;
 mod row;
 mod run;
 mod stream;
@@ -23,8 +23,8 @@ pub use crate::fields::{
 };
 pub use crate::literal::push_string_kind;
 pub use crate::names::{names_of, path_from, path_of, tokens_of};
-pub use crate::refusal::{
-    kind_of, place_after, push_expected, push_fault, push_message, push_refusal,
+pub use crate::rejection::{
+    kind_of, place_after, push_expected, push_fault, push_message, push_rejection,
 };
 pub use crate::run::{RowWord, run_rows};
 pub use crate::stream::Stream;

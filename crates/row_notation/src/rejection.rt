@@ -129,7 +129,7 @@ pub fn kind_of(alloc: Global, kind: &CompileErrorKind<'_>) -> Result<String, All
 
 /// Writes an error: its kind, and the offset and the length of its token. Also writes its line and
 /// column if they aren't those of the offset.
-pub fn push_refusal(answer: &mut Answer, text: &str, error: &CompileError<'_>) {
+pub fn push_rejection(answer: &mut Answer, text: &str, error: &CompileError<'_>) {
     let token = error.token;
     answer.push_made(kind_of(answer.alloc(), &error.kind));
     answer.push_number(token.offset);
@@ -144,7 +144,7 @@ pub fn push_refusal(answer: &mut Answer, text: &str, error: &CompileError<'_>) {
 /// Writes why there is no result for a text.
 pub fn push_fault(answer: &mut Answer, text: &str, fault: &Fault<'_>) {
     match fault {
-        Fault::Compile(error) => push_refusal(answer, text, error),
+        Fault::Compile(error) => push_rejection(answer, text, error),
         Fault::Memory => answer.push("memory"),
         Fault::Numbers => answer.push("numbers"),
     }
@@ -160,7 +160,7 @@ pub fn push_expected(answer: &mut Answer, text: &str, fault: &Fault<'_>) {
                 answer.push("but");
                 push_kinds(answer, &[*found]);
             }
-            _ => push_refusal(answer, text, error),
+            _ => push_rejection(answer, text, error),
         },
         fault => push_fault(answer, text, fault),
     }
