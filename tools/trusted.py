@@ -151,7 +151,8 @@ GROUPS = [
     [("justfile_files/src/run.rt", ["run"]), ("line_diff/src/unified.rt", ["unified_diff"])],
     [("justfile_c/src/lib.rt", ["justfile_format"])],
     [
-        ("justfile_lint/src/file.rt", ["lint"]),
+        ("justfile_lint/src/file.rt", ["lint", "lint_with_circles"]),
+        ("justfile_problems/src/circular.rt", ["circles_of", "error"]),
         ("justfile_problems/src/listing.rt", ["problems"]),
         ("justfile_problems/src/error.rt", ["error"]),
     ],

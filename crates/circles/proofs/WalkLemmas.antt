@@ -64,16 +64,6 @@ walk_push : (edges : List Edge) (steps : Steps) (gone : List ℕ) (from node ind
 walk_push edges steps [] from node index w s = (ap (λ n. step_from steps n) w ∙ s, refl)
 walk_push edges steps (k ∷ ks) from node index w s = (w.0, walk_push edges steps ks (end_of edges k) node index w.1 s)
 
-pub walks_none : (edges : List Edge) (from : ℕ) (old : Steps) → Walks edges from old old [] from
-walks_none edges from old = record {
-  walk = refl;
-  left = inr refl;
-  kept = λ node index s. s;
-  taken = λ node index s n. absurd (not_both _ index s n);
-  out = λ own node index s c. absurd (contains_none index c);
-  once = λ own. tt;
-}
-
 module _ (edges : List Edge) (from : ℕ) (old steps new : Steps) (gone : List ℕ) (node index : ℕ) (walks : Walks edges from old steps gone node) (has : step_from steps node ≡ Some index)
     (updates : (other : ℕ) → step_from new other ≡ cond (nat_eq node other) None (step_from steps other)) where
   others_kept : (other i : ℕ) → step_from new other ≡ Some i → step_from steps other ≡ Some i

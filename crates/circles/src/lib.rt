@@ -3,6 +3,8 @@
 //! A search that has no contract makes two forests. If they pass a test, they show which edges are
 //! part of a circle; otherwise a plain search answers. So each answer is right, whatever the first
 //! search does, and only the time depends on it.
+//!
+//! The circles themselves are found by following from each node its first edge that is part of one.
 #![tactic(auto)]
 
 mod certificate;

@@ -62,9 +62,16 @@ fn push_doc(answer: &mut Answer, doc: &Option<String>) {
 /// Writes the attributes of an item, each with the offset of its name, and its comment. Returns
 /// whether it has any.
 pub(crate) fn push_attributes_of(item: &Item<'_>, answer: &mut Answer) -> bool {
-    match item.attributes() {
-        Some(attributes) => push_attributes(attributes, answer),
-        None => false,
+    match item {
+        Item::Alias(alias) => push_attributes(&alias.attributes, answer),
+        Item::Assignment(assignment) => push_attributes(&assignment.attributes, answer),
+        Item::Comment(_) | Item::Newline => false,
+        Item::Function(function) => push_attributes(&function.attributes, answer),
+        Item::Import { attributes, .. } => push_attributes(attributes, answer),
+        Item::Module { attributes, .. } => push_attributes(attributes, answer),
+        Item::Recipe(recipe) => push_attributes(&recipe.attributes, answer),
+        Item::Setting(set) => push_attributes(&set.attributes, answer),
+        Item::Unexport { attributes, .. } => push_attributes(attributes, answer),
     }
 }
 

@@ -151,22 +151,14 @@ fn push_set<'src>(
 /// Writes `remade` if a set that is taken apart and made again isn't equal to it, `untaken` if its
 /// attributes by value are others, and `filled` if a new set has attributes.
 fn push_taken(set: &AttributeSet<'_>, answer: &mut Answer) {
-    push_unless_so(answer, "remade", remade(set, answer.alloc()));
-    push_unless_so(answer, "untaken", is_taken(set, answer.alloc()));
-    answer.push_if("filled", is_filled(answer.alloc()));
-}
-
-/// Writes a word unless something is found to be so.
-fn push_unless_so(answer: &mut Answer, word: &str, found: Result<bool, AllocError>) {
-    match found {
-        Ok(is_so) => answer.push_if(word, !is_so),
-        Err(_) => answer.fail(),
+    match (remade(set, answer.alloc()), is_taken(set, answer.alloc())) {
+        (Ok(is_remade), Ok(is_taken)) => {
+            answer.push_if("remade", !is_remade);
+            answer.push_if("untaken", !is_taken);
+        }
+        _ => answer.fail(),
     }
-}
-
-/// Whether a new set has attributes.
-fn is_filled(alloc: Global) -> bool {
-    !has_keys(AttributeSet::new(alloc), &[])
+    answer.push_if("filled", AttributeSet::new(answer.alloc()).len() > 0);
 }
 
 /// Whether a set is made again of what a copy of it is taken apart to.
