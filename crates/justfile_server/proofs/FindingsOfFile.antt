@@ -1,5 +1,5 @@
 -- What is told of a file.
-use Rattle.std.proofs.Common.{◌≡◌, ◌∙◌, Bool, List, Result, Ok, Err, IfOk, IsPermutation, ap, subst}
+use Rattle.std.proofs.Common.{◌≡◌, ◌∙◌, ℕ, Bool, List, [], Result, Ok, Err, IfOk, IsPermutation, ap, codes, subst}
 use Rattle.std.specs.Global.{Vec}
 use Rattle.std.specs.List.{flat_map}
 use Rattle.std.specs.List.Sorted.{IsNonDecreasingBy}
@@ -14,10 +14,13 @@ use Rattle.justfile_facts.specs.Definitions.{item_definitions}
 use Rattle.justfile_facts.specs.Facts.{AreFactsOf}
 use Rattle.justfile_facts.specs.Uses.{item_uses}
 use Rattle.justfile_facts.specs.declared.facts.Facts.{Facts}
+use Rattle.justfile_canonical.specs.Root.{IsRoot}
 use Rattle.justfile_lint.specs.Lint.{problems_of}
+use Rattle.justfile_lint.specs.Names.{may_be_imported}
 use Rattle.justfile_findings.specs.Findings.{AreFindings}
 use Rattle.editor_language.specs.declared.parts.Finding.{Finding}
-use Rattle.justfile_server.specs.Findings.{AreFindingsOf}
+use Rattle.justfile_analysis.specs.Knowledge.{IsNone}
+use Rattle.justfile_server.specs.Findings.{AreFindingsOf, AreInText, of_none, of_tree}
 
 pub of_file : {E : Type 0} (imported : Bool) (ast : Ast) (all : List Item) (features : List (ListFeature × Token)) (facts : Facts) (problems : List Problem) (r : Result (Vec Finding) E)
     → AreFactsOf imported all features facts → all ≡ ast.items.items → IsPermutation (problems_of imported ast) problems → IsNonDecreasingBy (λ (p : Problem). p.token.offset) problems
@@ -31,3 +34,12 @@ of_file imported ast all features facts problems (Ok found) are same permuted so
       subst (λ (ds : List Definition). AreFindings ds (flat_map item_uses ast.items.items) problems found.items) (are.definitions ∙ ap (flat_map item_definitions) same)
       (subst (λ (us : List Use). AreFindings facts.definitions.items us problems found.items) (are.uses ∙ ap (flat_map item_uses) same) told);
 }
+
+-- what is told of a text with a tree, and of one without
+pub with_tree : (uri text : List ℕ) (imported : Bool) (found : List Finding) → imported ≡ may_be_imported uri → (ast : Ast) × IsRoot (codes "justfile") text ast × AreFindingsOf imported ast found
+    → AreInText uri text found
+with_tree uri text imported found e h = of_tree h.0 h.1 (subst (λ (b : Bool). AreFindingsOf b h.0 found) e h.2)
+
+pub without_tree : {E : Type 0} (r : Result (Vec Finding) E) (uri text : List ℕ) → IsNone text → IfOk r (λ found. found.items ≡ []) → IfOk r (λ found. AreInText uri text found.items)
+without_tree (Ok found) uri text none h = of_none none h
+without_tree (Err e) uri text none h = tt

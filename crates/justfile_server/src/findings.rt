@@ -1,5 +1,5 @@
 //! What is wrong with what a justfile says.
-ghost use Rattle.std.specs.Prelude.{IfOk, length, nat_lt};
+ghost use Rattle.std.specs.Prelude.{◌≡◌, [], IfOk, length, nat_lt};
 ghost use Rattle.justfile_server.specs.Findings.{AreFindingsOf, AreFound, AreInShort, AreInText, limit};
 
 use editor_language::{Finding, Problem};
@@ -14,7 +14,7 @@ use std::alloc::{AllocError, Global};
 /// The longest text, in bytes, that is looked at: at each change it is parsed as a whole, and what it
 /// says is looked at, which takes less time than one notices when typing. What is written by hand is
 /// shorter.
-const LIMIT: usize = 1 << 17;
+const LIMIT: usize = 131_072;
 
 /// Asks a justfile for what is wrong with what it says.
 #[derive(Drop)]
@@ -60,7 +60,7 @@ pub(crate) fn findings_of(
 {
     match problems {
         [] => short_findings(alloc, uri, text),
-        [_, ..] => Ok(Vec::new(alloc)),
+        [_, ..] => no_findings(alloc),
     }
 }
 
@@ -70,7 +70,7 @@ fn short_findings(alloc: Global, uri: &str, text: &str) -> Result<Vec<Finding>, 
         AreInShort uri.now text.now (nat_lt limit (length text.now)) found.items) }
 {
     if LIMIT < text.len() {
-        Ok(Vec::new(alloc))
+        no_findings(alloc)
     } else {
         findings_in(alloc, uri, text)
     }
@@ -86,6 +86,13 @@ fn findings_in(alloc: Global, uri: &str, text: &str) -> Result<Vec<Finding>, All
     match query_root(alloc, "justfile", text, &FindingQuery { imported }) {
         Ok(found) => Ok(found),
         Err(Fault::Memory) => Err(AllocError),
-        Err(_) => Ok(Vec::new(alloc)),
+        Err(_) => no_findings(alloc),
     }
+}
+
+/// Returns no findings.
+fn no_findings(alloc: Global) -> Result<Vec<Finding>, AllocError>
+    ensures { IfOk result (λ found. found.items ≡ []) }
+{
+    Ok(Vec::new(alloc))
 }

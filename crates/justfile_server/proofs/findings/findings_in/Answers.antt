@@ -1,11 +1,9 @@
-use Rattle.std.proofs.Common.{refl}
-use Rattle.justfile_server.specs.Findings.{of_none, of_tree}
+use Rattle.justfile_server.proofs.FindingsOfFile.{with_tree, without_tree}
 use Rattle.justfile_server.proofs.findings.findings_in.Goals as goal
 
 pub returns-in-Ok : goal.returns-in-Ok
-returns-in-Ok c =
-    let found = c.in-Ok.ensures.ok in
-    of_tree found.0 found.1 found.2
+returns-in-Ok c = with_tree c.args.uri.now c.args.text.now _ _ c.may_be_imported-imported.ensures c.in-Ok.ensures.ok
 
 pub returns : goal.returns
-returns c = of_none (record { fault = c.in-Err.field-0; no_root = c.in-Err.ensures.err }) refl
+returns c =
+    without_tree c.no_findings.result c.args.uri.now c.args.text.now (record { fault = c.in-Err.field-0; no_root = c.in-Err.ensures.err }) c.no_findings.ensures
