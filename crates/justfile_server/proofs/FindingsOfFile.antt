@@ -22,17 +22,19 @@ use Rattle.editor_language.specs.declared.parts.Finding.{Finding}
 use Rattle.justfile_analysis.specs.Knowledge.{IsNone}
 use Rattle.justfile_server.specs.Findings.{AreFindingsOf, AreInText, of_none, of_tree}
 
-pub of_file : {E : Type 0} (imported : Bool) (ast : Ast) (all : List Item) (features : List (ListFeature × Token)) (facts : Facts) (problems : List Problem) (r : Result (Vec Finding) E)
-    → AreFactsOf imported all features facts → all ≡ ast.items.items → IsPermutation (problems_of imported ast) problems → IsNonDecreasingBy (λ (p : Problem). p.token.offset) problems
-    → IfOk r (λ found. AreFindings facts.definitions.items facts.uses.items problems found.items) → IfOk r (λ found. AreFindingsOf imported ast found.items)
-of_file imported ast all features facts problems (Err e) are same permuted sorted told = tt
-of_file imported ast all features facts problems (Ok found) are same permuted sorted told = record {
+pub of_file : {E : Type 0} (imported : Bool) (ast : Ast) (all : List Item) (features : List (ListFeature × Token)) (facts : Facts) (problems lent : List Problem) (ds : List Definition) (us : List Use)
+    (r : Result (Vec Finding) E) → AreFactsOf imported all features facts → all ≡ ast.items.items → IsPermutation (problems_of imported ast) problems
+    → IsNonDecreasingBy (λ (p : Problem). p.token.offset) problems → lent ≡ problems → ds ≡ facts.definitions.items → us ≡ facts.uses.items
+    → IfOk r (λ found. AreFindings ds us lent found.items) → IfOk r (λ found. AreFindingsOf imported ast found.items)
+of_file imported ast all features facts problems lent ds us (Err e) are same permuted sorted lent_is ds_are us_are told = tt
+of_file imported ast all features facts problems lent ds us (Ok found) are same permuted sorted lent_is ds_are us_are told = record {
   problems = problems;
   all = permuted;
   in_order = sorted;
   told =
-      subst (λ (ds : List Definition). AreFindings ds (flat_map item_uses ast.items.items) problems found.items) (are.definitions ∙ ap (flat_map item_definitions) same)
-      (subst (λ (us : List Use). AreFindings facts.definitions.items us problems found.items) (are.uses ∙ ap (flat_map item_uses) same) told);
+      subst (λ (it : List Definition). AreFindings it (flat_map item_uses ast.items.items) problems found.items) (ds_are ∙ are.definitions ∙ ap (flat_map item_definitions) same)
+      (subst (λ (it : List Use). AreFindings ds it problems found.items) (us_are ∙ are.uses ∙ ap (flat_map item_uses) same)
+      (subst (λ (it : List Problem). AreFindings ds us it found.items) lent_is told));
 }
 
 -- what is told of a text with a tree, and of one without

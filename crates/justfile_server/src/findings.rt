@@ -34,7 +34,6 @@ impl Query for FindingQuery {
 }
 
 /// Returns what is wrong with what a file says. `imported` is whether another file may import it.
-#[tactic(auto, using(crate::proofs::FindingsOfFile::of_file))]
 fn file_findings(
     ast: &mut Ast<'_>,
     alloc: Global,
