@@ -1,2 +1,4 @@
 pub mod AllTold
+pub mod Asked
 pub mod FirstNear
+pub mod Meant

@@ -170,6 +170,13 @@ fn push_built_in<'src>(
     }
 }
 
+/// Returns the use that a problem is at, if it is at one.
+fn use_of<'a, 'src>(problem: &Problem<'src>, uses: &'a [Use<'src>]) -> Option<&'a Use<'src>>
+    ensures { option_copied result ≡ find (is_at problem.now) uses.now }
+{
+    uses.iter().find(|used| is_at(problem, used))
+}
+
 /// Returns the names that could be meant by the name that a problem is about, if it is unknown: those
 /// that the file defines, and then those that are built in.
 pub(crate) fn names_for<'src>(
@@ -181,7 +188,7 @@ pub(crate) fn names_for<'src>(
     ensures { IfOk result (λ names.
         texts names.items ≡ names_for definitions.now uses.now problem.now) }
 {
-    let used = uses.iter().find(|used| is_at(problem, used));
+    let used = use_of(problem, uses);
     let mut names = Vec::new(alloc);
     push_defined(problem, used, definitions, &mut names)?;
     push_built_in(problem, &mut names)?;

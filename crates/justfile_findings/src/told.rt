@@ -1,5 +1,5 @@
 //! What is told of a problem.
-ghost use Rattle.std.specs.Prelude.{◌≡◌, ◌++◌, IfOk, option_map, string_bytes};
+ghost use Rattle.std.specs.Prelude.{◌≡◌, ◌++◌, IfOk, Some, option_map, string_bytes};
 ghost use Rattle.std.specs.Option.{option_copied};
 ghost use Rattle.justfile_problems.specs.Errors.{IsErrorOf};
 ghost use Rattle.justfile_token.specs.Messages.{message_text};
@@ -12,6 +12,21 @@ use justfile_problems::Problem;
 use justfile_token::CompileError;
 use std::alloc::{AllocError, Global};
 
+/// Returns the message of an error.
+fn plain_message(alloc: Global, error: &CompileError<'_>) -> Result<String, AllocError>
+    ensures { IfOk result (λ made. string_bytes made ≡ message_text error.now) }
+{
+    format!(in alloc; "{error}")
+}
+
+/// Returns the message of an error, and at its end the name that may be meant.
+fn asking_message(alloc: Global, error: &CompileError<'_>, name: &str) -> Result<String, AllocError>
+    ensures { IfOk result
+        (λ made. string_bytes made ≡ message_text error.now ++ question (Some name.now)) }
+{
+    format!(in alloc; "{error}\nDid you mean `{name}`?")
+}
+
 /// Returns the message of an error, and at its end the name that may be meant, if there is one.
 fn message(
     alloc: Global,
@@ -22,8 +37,8 @@ fn message(
         ≡ message_text error.now ++ question (option_copied suggestion.entry)) }
 {
     match suggestion {
-        None => format!(in alloc; "{error}"),
-        Some(name) => format!(in alloc; "{error}\nDid you mean `{name}`?"),
+        None => plain_message(alloc, error),
+        Some(name) => asking_message(alloc, error, name),
     }
 }
 
