@@ -4,13 +4,13 @@ use Rattle.std.proofs.lemmas.List.{take-append-drop}
 use Rattle.std.proofs.lemmas.Str.Pattern.{drop_at_char}
 use Rattle.std.specs.Path.{slash}
 use Rattle.std.specs.Str.Pattern.{RFindsChar, SplitsAroundMatch}
-use Rattle.std.specs.Prelude.{Bool, Option, None, Some, Result, Ok, Err, IfOk, MatchOption, codes, option_map, String, string_bytes}
+use Rattle.std.specs.Prelude.{Option, None, Some, Result, Ok, Err, IfOk, MatchOption, codes, option_map, String, string_bytes}
 use Rattle.std.specs.Str.{IsUtf8}
 use Rattle.std.specs.declared.alloc.Global.{Global}
 use Rattle.std.proofs.lemmas.List.{append_cancel_left}
 use Rattle.std.proofs.lemmas.Str.{IsUtf8-string_bytes}
 use Rattle.percent_encoding.specs.Percent.{percent_decode}
-use Rattle.editor_answers.specs.Links.{IsEncodedPath, IsFolderOf, IsFolderPath, IsPathOfFolder, IsRooted, before}
+use Rattle.editor_answers.specs.Links.{IsEncodedPath, IsFolderOf, IsPathOfFolder, before}
 
 pub folder_before : (uri folder name : List ℕ) → SplitsAroundMatch (RFindsChar slash) uri folder name → IsFolderOf uri folder
 folder_before uri folder name h =

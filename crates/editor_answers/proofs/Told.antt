@@ -1,5 +1,5 @@
 -- What a language has for the word at a position.
-use Rattle.std.proofs.Common.{ℕ, List, Result, Ok, Err, IfOk}
+use Rattle.std.proofs.Common.{ℕ, List}
 use Rattle.justfile_lines.specs.Positions.{IsOffset}
 use Rattle.justfile_lines.specs.declared.encoding.Encoding.{Encoding}
 use Rattle.justfile_lines.specs.declared.position.Position.{Position}
