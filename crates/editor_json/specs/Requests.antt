@@ -1,8 +1,7 @@
 -- What is asked, and what a message is, by data of JSON. Texts are lists of bytes.
 use Rattle.std.specs.Prelude.{ℕ, ℤ, List, Bool, true, false, cond, ◌||◌, Option, Some, None, codes, is_some, option_and_then, option_map, unwrap_or}
-use Rattle.std.specs.List.{find}
 use Rattle.std.specs.Str.{bytes_eq}
-use Rattle.serde_json.specs.Data.{Data, null, boolean, number, string, array, object, Items, no_items, item}
+use Rattle.serde_json.specs.Data.{Data, string, Items, no_items, item}
 use Rattle.serde_json.specs.Find.{as_array, as_bool, as_i64, as_number, as_str, get}
 use Rattle.justfile_lines.specs.declared.encoding.Encoding.{Encoding}
 use Rattle.justfile_lines.specs.declared.encoding.Encoding.TheVariants.{Utf8, Utf16}

@@ -1,7 +1,7 @@
 use Rattle.std.proofs.Common.{◌∙◌, ℕ, List, ap}
 use Rattle.serde_json.specs.Written.{compact_text}
 use Rattle.editor_json.proofs.Optional.{diagnosed}
-use Rattle.editor_json.specs.Sent.{optional_text, text_data}
+use Rattle.editor_json.specs.Sent.{text_data}
 use Rattle.editor_json.proofs.elements.diagnostic_text.Goals as goal
 
 pub returns : goal.returns
