@@ -26,18 +26,26 @@ place_line token = indent token ++ arrow ++ token.path.now ++ codes ":" ++ numbe
 abbrev pub bar_line : Token → List ℕ
 bar_line token = indent token ++ bar
 
--- the line on which the token begins, after its number
-abbrev pub source_line : Token → List ℕ
-source_line token = number_text token ++ bar ++ codes " " ++ shown_line (line_at token.src.now token.line)
+-- a line after the number of the token's line
+abbrev pub source_line : Token → List ℕ → List ℕ
+source_line token line = number_text token ++ bar ++ codes " " ++ shown_line line
 
--- a caret under each column of the token, but at least one; an empty token counts as one byte
-abbrev pub caret_line : Token → List ℕ
-caret_line token =
-    let line = line_at token.src.now token.line in
+-- a caret under each column of the token in a line, but at least one; an empty token counts as one byte
+abbrev pub caret_line : Token → List ℕ → List ℕ
+caret_line token line =
     indent token ++ bar ++ codes " "
     ++ repeat (width_in line 0 token.column) (codes " ")
     ++ repeat (max 1 (width_in line token.column (max token.length 1))) (codes "^")
 
+-- the excerpt of a token whose line this is
+abbrev pub excerpt_on : Token → List ℕ → List ℕ
+excerpt_on token line =
+    place_line token ++ codes "\n" ++ bar_line token ++ codes "\n"
+    ++ source_line token line ++ codes "\n" ++ caret_line token line
+
+-- the line on which a token begins
+abbrev pub line_of : Token → List ℕ
+line_of token = line_at token.src.now token.line
+
 abbrev pub excerpt_text : Token → List ℕ
-excerpt_text token =
-    place_line token ++ codes "\n" ++ bar_line token ++ codes "\n" ++ source_line token ++ codes "\n" ++ caret_line token
+excerpt_text token = excerpt_on token (line_of token)

@@ -4,7 +4,7 @@
 pub mod compile_error;
 pub mod compile_error_kind;
 pub mod delimiter;
-mod excerpt;
+pub mod excerpt;
 pub mod excerpt_examples;
 pub mod expander;
 pub mod fault;
@@ -25,6 +25,7 @@ mod try_clone;
 pub use crate::compile_error::CompileError;
 pub use crate::compile_error_kind::CompileErrorKind;
 pub use crate::delimiter::Delimiter;
+pub use crate::excerpt::Excerpt;
 pub use crate::expander::{ExpandFault, Expander, Unchanged};
 pub use crate::fault::{CompileResult, Fault};
 pub use crate::keyed::Keyed;

@@ -8,9 +8,10 @@ use Rattle.justfile_token.proofs.excerpt.write_caret_line.Goals as goal
 pub returns : goal.returns
 returns g c = λ plain ok.
     let token = c.args.token.now in
+    let line = c.args.line.now in
     let bar = c.in_ok-write_bar.ensures plain refl in
     let space = has_written_append _ _ _ _ _ _ bar (c.in_ok-write_str.ensures.writes bar.plain refl) in
     let before = has_written_append _ _ _ _ _ _ space (c.in_ok-write_columns.ensures space.plain refl) in
     has_written_of_eq _ _ _ _ _
-    (λ i. let line = c.line_at-line.ensures i in bar_line token ++ codes " " ++ repeat (width_in line 0 token.column) (codes " ") ++ repeat (max 1 (width_in line token.column (c.max.ensures i))) (codes "^"))
+    (λ i. bar_line token ++ codes " " ++ repeat (width_in line 0 token.column) (codes " ") ++ repeat (max 1 (width_in line token.column (c.max.ensures i))) (codes "^"))
     (has_written_append _ _ _ _ _ _ before (c.write_carets.ensures before.plain ok))
