@@ -402,6 +402,11 @@ def random_request(server, text, encoding, chance):
     return method, answer
 
 
+def at_document(answer):
+    """An answer of the other document as it would be of the one that is edited."""
+    return json.loads(json.dumps(answer).replace(FRESH, DOCUMENT))
+
+
 def edit_at_random(program, encoding, edits, chance):
     """Edits a document at random."""
     server = Server(program, encoding)
@@ -414,7 +419,7 @@ def edit_at_random(program, encoding, edits, chance):
         change = {"range": {"start": position(text, start, encoding), "end": position(text, end, encoding)}, "text": new}
         text = text[:start] + new + text[end:]
         found = server.change(DOCUMENT, [change])
-        check(server.open(FRESH, text) == found, f"other diagnostics of {text!r}")
+        check(at_document(server.open(FRESH, text)) == found, f"other diagnostics of {text!r}")
         said, wanted = server.all_of(DOCUMENT), server.all_of(FRESH)
         for query, one, other in zip(QUERIES, said, wanted):
             check(one == other, f"{query} is answered by {one} after changes from {before!r}, and by {other} of {text!r}")

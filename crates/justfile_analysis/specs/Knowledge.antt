@@ -1,35 +1,38 @@
--- What is known of a justfile.
-use Rattle.std.specs.Prelude.{◌≡◌, ℕ, Bool, true, false, List, [], ◌∷◌, map, codes}
-use Rattle.justfile_token.specs.declared.fault.Fault.{Fault}
-use Rattle.justfile_canonical.specs.Root.{HasNoRoot}
-use Rattle.justfile_survey.specs.Seen.{Seen}
-use Rattle.justfile_survey.specs.Surveys.{Shows}
+-- What is known of a text.
+use Rattle.std.specs.Prelude.{◌≡◌, ℕ, true, List, [], map, length}
+use Rattle.std.specs.List.{AllZip, flat_map}
+use Rattle.text_parts.specs.Parts.{AreParts}
+use Rattle.text_parts.specs.declared.part.Part.{Part}
+use Rattle.justfile_round_trip.specs.RoundTrip.{TextDerives}
+use Rattle.justfile_chunks_grammar.specs.Chunks.{joined}
+use Rattle.justfile_chunks.specs.JoinedTexts.{ParsedChunk, features_in_text, items_in_text}
+use Rattle.justfile_ast.specs.Ast.{tree_of}
+use Rattle.justfile_ast.specs.declared.ast.Ast.{Ast}
+use Rattle.justfile_canonical.specs.Root.{conditions}
 use Rattle.editor_language.specs.declared.parts.Analysis.{Analysis}
-use Rattle.editor_language.specs.declared.parts.Item.{Item}
-use Rattle.editor_language.specs.declared.parts.Problem.{Problem}
-use Rattle.justfile_analysis.specs.Lists.{Lists}
-use Rattle.justfile_analysis.specs.Names.{Named, named, to_name}
+use Rattle.editor_language.specs.declared.parts.Known.{Known}
+use Rattle.justfile_analysis.specs.InText.{all_shown, wrong_count}
+use Rattle.justfile_analysis.specs.Parts.{IsPartOf, IsRight}
+use Rattle.justfile_analysis.specs.Shown.{shown}
 
--- the text is a justfile, and these are the names of the items of its tree, and those of the paths of its imports
-pub record IsJustfile (text : List ℕ) (names : List Named) : Type 0 where
-  pub views : List Seen
-  pub shows : Shows (codes "justfile") text views
-  pub names_are : names ≡ map to_name views
+-- The text is cut into these parts. Its items are theirs, and there is a problem for each that is wrong.
+pub record Knows (text : List ℕ) (a : Analysis) : Type 0 where
+  pub are_parts : AreParts IsPartOf true text a.parts.items
+  pub items_are : map shown a.items.items ≡ all_shown 0 a.parts.items
+  pub problems_are : length a.problems.items ≡ wrong_count a.parts.items
 
--- the text is no justfile
-pub record IsNone (text : List ℕ) : Type 0 where
-  pub fault : Fault
-  pub no_root : HasNoRoot (codes "justfile") text fault
+-- a part is right, with this file
+abbrev pub IsOfFile : Ast → Part Known → Type 0
+IsOfFile ast p = (length_of_text : ℕ) × IsRight length_of_text ast p.known
 
--- the items are those of a justfile: of its chunks, or else of it as a whole
-abbrev pub AreItems : (text : List ℕ) → (in_chunks : Bool) → List Item → Type 0
-AreItems text true items = Lists text items
-AreItems text false items = IsJustfile text (map named items)
+-- The text derives a tree: those of the files of its parts, joined, each with its places moved to where it is in the text.
+pub record IsJustfile (text : List ℕ) (parts : List (Part Known)) : Type 0 where
+  pub asts : List Ast
+  pub are_of : AllZip IsOfFile asts parts
+  pub chunks : List ParsedChunk
+  pub trees_are : map (λ c. c.tree) chunks ≡ map tree_of asts
+  pub derives : TextDerives conditions text (joined (map items_in_text chunks)) (flat_map features_in_text chunks)
 
--- If there is no problem, the text is a justfile, and the items are those of its tree. Otherwise it is none.
-abbrev pub IsKnown : (text : List ℕ) → (in_chunks : Bool) → List Problem → List Item → Type 0
-IsKnown text in_chunks [] items = AreItems text in_chunks items
-IsKnown text in_chunks (problem ∷ others) items = IsNone text
-
-abbrev pub Knows : (text : List ℕ) → Analysis → Type 0
-Knows text a = IsKnown text a.in_chunks a.problems.items a.items.items
+-- Without problems the text is a justfile, and the items are those of its tree.
+abbrev pub RightLaw : Type 0
+RightLaw = (text : List ℕ) (a : Analysis) → Knows text a → a.problems.items ≡ [] → IsJustfile text a.parts.items

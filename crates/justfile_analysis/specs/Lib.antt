@@ -1,5 +1,5 @@
+pub mod Ends
+pub mod InText
 pub mod Knowledge
-pub mod Listing
-pub mod Lists
-pub mod Names
-pub mod Seams
+pub mod Parts
+pub mod Shown

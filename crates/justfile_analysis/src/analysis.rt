@@ -1,18 +1,16 @@
 //! What is known of a justfile.
-ghost use Rattle.std.specs.Prelude.{◌≡◌, ℕ, List, IfOk, IfSome, false, length, map};
-ghost use Rattle.justfile_analysis.specs.Knowledge.{Knows};
-ghost use Rattle.justfile_analysis.specs.Lists.{Lists};
-ghost use Rattle.justfile_analysis.specs.Names.{named, surveyed};
+ghost use Rattle.std.specs.Prelude.{IfOk, List, true};
+ghost use Rattle.text_parts.specs.Parts.{AreParts};
+ghost use Rattle.justfile_analysis.specs.Knowledge.{Knows, RightLaw};
+ghost use Rattle.justfile_analysis.specs.Parts.{IsPartOf};
 
-use crate::incremental::items_after;
-use crate::items::{items_of, span_from};
-use crate::listing::listed_items;
-use editor_language::{Analysis, Item, Problem};
-use justfile_survey::{Survey, SurveyedError, survey};
+use crate::cut::JustfileCut;
+use crate::in_text::{items_in_text, problems_in_text};
+use editor_language::{Analysis, Known};
 use std::alloc::{AllocError, Global};
+use text_parts::{Part, parts_after, parts_of};
 
-/// Returns what is known of a text: without problems its items, each with the span of its chunk, and
-/// otherwise what a survey finds.
+/// Returns what is known of a text.
 ///
 /// # Errors
 ///
@@ -20,14 +18,12 @@ use std::alloc::{AllocError, Global};
 pub fn analysis_of(alloc: Global, text: &str) -> Result<Analysis, AllocError>
     ensures { IfOk result (Knows text.now) }
 {
-    match listed_items(alloc, text)? {
-        Some(items) => Ok(without_problems(alloc, items)),
-        None => surveyed_analysis(alloc, text),
-    }
+    let parts = parts_of(&JustfileCut, alloc, text)?;
+    analysis_with(alloc, text, parts)
 }
 
 /// Returns what is known of a text, by what was known of an old text, which it was before a change:
-/// only the chunks around the change are parsed, if that suffices.
+/// only the parts around the change are parsed.
 ///
 /// # Errors
 ///
@@ -35,84 +31,34 @@ pub fn analysis_of(alloc: Global, text: &str) -> Result<Analysis, AllocError>
 pub fn analysis_after(
     alloc: Global,
     old_text: &str,
-    old: &Analysis,
+    old: Analysis,
     text: &str,
 ) -> Result<Analysis, AllocError>
-    ensures { Knows old_text.now old.now → IfOk result (Knows text.now) }
+    ensures { Knows old_text.now old → IfOk result (Knows text.now) }
 {
-    match listed_after(alloc, old_text, old, text)? {
-        Some(items) => Ok(without_problems(alloc, items)),
-        None => analysis_of(alloc, text),
-    }
+    let parts = parts_after(&JustfileCut, alloc, old_text, old.parts, text)?;
+    analysis_with(alloc, text, parts)
 }
 
-/// Returns the items of a text after a change, if those of the old text are listed by their chunks, and
-/// only the chunks around the change have to be parsed.
-fn listed_after(
+/// Returns what is known of a text that is cut into parts.
+fn analysis_with(
     alloc: Global,
-    old_text: &str,
-    old: &Analysis,
     text: &str,
-) -> Result<Option<Vec<Item>>, AllocError>
-    ensures { Knows old_text.now old.now
-        → IfOk result (λ found. IfSome found (λ items. Lists text.now items.items)) }
+    parts: Vec<Part<Known>>,
+) -> Result<Analysis, AllocError>
+    ensures { AreParts IsPartOf true text.now parts.items → IfOk result (Knows text.now) }
 {
-    if !old.in_chunks || !old.problems.is_empty() {
-        return Ok(None);
-    }
-    items_after(alloc, old_text, &old.items, text)
-}
-
-/// Returns what is known of a justfile with these items, by its chunks.
-fn without_problems(alloc: Global, items: Vec<Item>) -> Analysis
-    ensures { (text : List ℕ) → Lists text items.items → Knows text result }
-{
-    Analysis {
-        problems: Vec::new(alloc),
-        items,
-        in_chunks: true,
-    }
-}
-
-/// Returns what a survey of a text finds.
-fn surveyed_analysis(alloc: Global, text: &str) -> Result<Analysis, AllocError>
-    ensures { IfOk result (Knows text.now) }
-{
-    let survey = survey(alloc, "justfile", text)?;
-    analysis_by(alloc, &survey)
-}
-
-/// Returns what a survey knows of a text.
-fn analysis_by(alloc: Global, survey: &Survey) -> Result<Analysis, AllocError>
-    ensures items { IfOk result (λ analysis.
-        map named analysis.items.items ≡ map surveyed survey.now.items.items) }
-    ensures problems { IfOk result (λ analysis.
-        length analysis.problems.items ≡ length survey.now.errors.items) }
-    ensures in_chunks { IfOk result (λ analysis. analysis.in_chunks ≡ false) }
-{
-    let items = items_of(alloc, &survey.items)?;
-    let problems = problems_of(alloc, &survey.errors)?;
+    let items = items_in_text(alloc, &parts)?;
+    let problems = problems_in_text(alloc, text, &parts)?;
     Ok(Analysis {
         problems,
         items,
-        in_chunks: false,
+        parts,
     })
 }
 
-/// Returns the errors of a survey.
-fn problems_of(alloc: Global, errors: &[SurveyedError]) -> Result<Vec<Problem>, AllocError>
-    ensures { IfOk result (λ problems. length problems.items ≡ length errors.now) }
+/// Without problems the text is a justfile, and the items are those of its tree.
+pub fn right_texts()
+    ensures { RightLaw }
 {
-    let mut problems = Vec::new(alloc);
-    for error in errors {
-        problems.push(problem_of(error)?)?;
-    }
-    Ok(problems)
-}
-
-/// Returns an error of a survey.
-fn problem_of(error: &SurveyedError) -> Result<Problem, AllocError> {
-    let message = error.message.clone()?;
-    let span = span_from(0, error.span);
-    Ok(Problem { span, message })
 }

@@ -1,13 +1,14 @@
-//! What an editor is told of a justfile: what is wrong in it, and its items; and what is known of it after a
-//! change, from what was known before.
+//! What an editor is told of a justfile: its items, and what is wrong in it. The text is cut into parts,
+//! each of which is parsed by itself; after a change, what is known of the other parts is kept.
 #![tactic(auto)]
 
 mod analysis;
-mod difference;
-mod incremental;
+mod cut;
+mod ends;
+mod in_text;
 mod items;
-mod listing;
-mod moved;
-mod seams;
+mod reading;
+mod rejection;
+mod wrong;
 
-pub use analysis::{analysis_after, analysis_of};
+pub use analysis::{analysis_after, analysis_of, right_texts};

@@ -1,5 +1,6 @@
 //! The parts of a text: from where an item may begin up to where the next one may.
-ghost use Rattle.std.specs.Prelude.{◌<◌, ◌≤◌, length};
+ghost use Rattle.std.specs.Prelude.{◌≡◌, ◌⊎◌, ◌<◌, ◌≤◌, length, true};
+ghost use Rattle.justfile_recovery.specs.Starts.{is_start};
 
 use crate::lines::is_comment_before;
 use crate::starts::next_start;
@@ -10,6 +11,7 @@ pub fn part_end(bytes: &[u8], from: usize) -> usize
     requires { from < length bytes.now }
     ensures forward { from < result }
     ensures within { result ≤ length bytes.now }
+    ensures start { (result ≡ length bytes.now) ⊎ (is_start bytes.now result ≡ true) }
 {
     let mut line = from;
     let mut end = next_start(bytes, from + 1);

@@ -55,3 +55,6 @@ module _ (n : ℕ) where
   alone new old views none a =
       let is : new ≡ a.more = a.is ∙ ap (λ xs. xs ++ a.more) none in
       (ap (map seen) is ∙ a.views_are, subst (All (PlacesIn n)) (sym is) a.places)
+
+  pub shown_alone : (new old : List SurveyedItem) (views : List Seen) → old ≡ [] → Adds n new old views → map seen new ≡ views
+  shown_alone new old views none a = (alone new old views none a).0

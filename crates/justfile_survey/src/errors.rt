@@ -53,9 +53,7 @@ pub(crate) fn rejection_of_part(
     let ends_early = ends_early(error);
     let bytes = source.text.as_bytes();
     let span = span_in_text(bytes, base, &error.token);
-    move_lines(&mut error.kind, source.feeds);
-    error.token.line = error.token.line.saturating_add(source.feeds);
-    let message = error.to_string(alloc)?;
+    let message = message_in_text(alloc, error, source.feeds)?;
     Ok(Rejection {
         error: SurveyedError {
             span,
@@ -67,6 +65,30 @@ pub(crate) fn rejection_of_part(
         },
         ends_early,
     })
+}
+
+/// Returns the message of an error of a part of a text, with this many line feeds before the part, as it
+/// is for the whole text. The error is as it is there then.
+///
+/// # Errors
+///
+/// `AllocError` if out of memory.
+pub fn message_in_text(
+    alloc: Global,
+    error: &mut CompileError<'_>,
+    feeds: usize,
+) -> Result<String, AllocError> {
+    move_lines(&mut error.kind, feeds);
+    error.token.line = error.token.line.saturating_add(feeds);
+    error.to_string(alloc)
+}
+
+/// Returns where an error of a text is shown: at its token, or before the last line feed if that is the
+/// end.
+pub fn place_of_error(text: &str, error: &CompileError<'_>) -> Span
+    ensures { LiesIn (length text.now) result }
+{
+    span_in_text(text.as_bytes(), 0, &error.token)
 }
 
 /// Returns the number of line feeds from one offset up to another one.

@@ -2,6 +2,17 @@
 
 use justfile_token::CompileErrorKind;
 
+/// Whether an error names lines.
+pub fn names_lines(kind: &CompileErrorKind<'_>) -> bool {
+    matches!(
+        kind,
+        CompileErrorKind::DuplicateArgAttribute { .. }
+            | CompileErrorKind::DuplicateAttribute { .. }
+            | CompileErrorKind::DuplicateGroupAttribute { .. }
+            | CompileErrorKind::MismatchedClosingDelimiter { .. }
+    )
+}
+
 /// Moves the lines that an error names.
 pub(crate) fn move_lines(kind: &mut CompileErrorKind<'_>, by: usize) {
     match kind {

@@ -2,6 +2,7 @@
 #![tactic(auto)]
 
 mod errors;
+mod file;
 mod items;
 mod kind_lines;
 mod parsing;
@@ -11,5 +12,8 @@ mod surveys;
 mod text;
 mod whole;
 
+pub use crate::errors::{message_in_text, place_of_error};
+pub use crate::file::items_of_file;
+pub use crate::kind_lines::names_lines;
 pub use crate::surveys::{Survey, SurveyedError, SurveyedItem};
 pub use crate::text::survey;

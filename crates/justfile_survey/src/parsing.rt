@@ -6,6 +6,7 @@ ghost use Rattle.justfile_survey.specs.Parts.{AddsFile, Parses};
 ghost use Rattle.justfile_survey.specs.Surveys.{IsRejectionIn};
 
 use crate::errors::{Rejection, rejection_of_part};
+use crate::file::one_extent;
 use crate::items::push_items;
 use crate::part::Part;
 use crate::surveys::SurveyedItem;
@@ -132,13 +133,6 @@ fn extents_of(piece: Piece<'_>, alloc: Global) -> Result<Vec<Span>, AllocError> 
         Cut::Whole => one_extent(alloc, piece.lines),
         Cut::Chunks => moved_extents(piece, alloc),
     }
-}
-
-/// Returns a span alone.
-fn one_extent(alloc: Global, lines: Span) -> Result<Vec<Span>, AllocError> {
-    let mut spans = Vec::new(alloc);
-    spans.push(lines)?;
-    Ok(spans)
 }
 
 /// Returns the spans of the chunks of a part in the whole text.

@@ -1,17 +1,20 @@
--- Names, and what an editor takes them for.
-use Rattle.std.specs.Prelude.{ℕ, List, string_bytes}
+-- What an editor is shown of items.
+use Rattle.std.specs.Prelude.{◌≡◌, ℕ, List, map, None, string_bytes}
 use Rattle.justfile_vocabulary.specs.declared.item_kind.ItemKind.{ItemKind}
 use Rattle.justfile_vocabulary.specs.declared.item_kind.ItemKind.TheVariants as kinds
+use Rattle.justfile_spans.specs.declared.span.Span as texts
 use Rattle.justfile_survey.specs.Seen.{Seen, seen}
 use Rattle.justfile_survey.specs.declared.surveys.SurveyedItem.{SurveyedItem}
 use Rattle.editor_messages.specs.declared.symbol_kind.SymbolKind.{SymbolKind}
 use Rattle.editor_messages.specs.declared.symbol_kind.SymbolKind.TheVariants as symbols
 use Rattle.editor_language.specs.declared.parts.Item.{Item}
+use Rattle.editor_language.specs.declared.parts.Span.{Span}
 
--- a name, and what an editor takes for it
-pub record Named : Type 0 where
+-- a name, what an editor takes it for, and where it is
+pub record Shown : Type 0 where
   pub name : List ℕ
   pub kind : SymbolKind
+  pub place : Span
 
 -- what an editor takes an item for
 abbrev pub kind_of : ItemKind → SymbolKind
@@ -23,11 +26,14 @@ kind_of kinds.Import = symbols.Module
 kind_of kinds.Setting = symbols.Property
 kind_of other = symbols.Variable
 
-abbrev pub named : Item → Named
-named i = record { name = string_bytes i.name; kind = i.kind }
+abbrev pub editor_span : texts.Span → Span
+editor_span s = record { start = s.start; end = s.end }
 
-abbrev pub to_name : Seen → Named
-to_name v = record { name = v.name; kind = kind_of v.kind }
+abbrev pub shown : Item → Shown
+shown i = record { name = string_bytes i.name; kind = i.kind; place = i.name_span }
 
-abbrev pub surveyed : SurveyedItem → Named
-surveyed s = to_name (seen s)
+abbrev pub to_show : Seen → Shown
+to_show v = record { name = v.name; kind = kind_of v.kind; place = editor_span v.place }
+
+abbrev pub surveyed : SurveyedItem → Shown
+surveyed s = to_show (seen s)

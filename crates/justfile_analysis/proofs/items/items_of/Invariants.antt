@@ -1,6 +1,0 @@
-use Rattle.std.proofs.Common.{◌≡◌, map, take}
-use Rattle.justfile_analysis.specs.Names.{named, surveyed}
-use Rattle.justfile_analysis.proofs.items.items_of.Given as goal
-
-abbrev pub invariant-loop-item : goal.invariant-loop-item
-invariant-loop-item l = map named l.items.items ≡ map surveyed (take l.item-index l.found)

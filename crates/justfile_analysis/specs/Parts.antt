@@ -1,0 +1,88 @@
+-- The parts of a justfile, and what is known of each.
+use Rattle.std.specs.Prelude.{◌≡◌, ◌⊎◌, ℕ, ◌+◌, ◌-◌, Bool, true, false, List, [], map, take, drop, length, nat_eq, slice_index, Option, None, Some, codes}
+use Rattle.std.specs.List.{slice_range}
+use Rattle.text_parts.specs.Parts.{IsNext, IsPartEnd, before}
+use Rattle.text_parts.specs.declared.part.Part.{Part}
+use Rattle.justfile_token.specs.declared.fault.Fault.{Fault}
+use Rattle.justfile_model.specs.Lexing.BlankLines.{is_blank_or_line_end}
+use Rattle.justfile_ast.specs.declared.ast.Ast.{Ast}
+use Rattle.justfile_parts.specs.Parts.{IsPart}
+use Rattle.justfile_canonical.specs.Root.{HasNoRoot, IsRoot, conditions}
+use Rattle.justfile_survey.specs.Items.{file_seen}
+use Rattle.editor_language.specs.declared.parts.Item.{Item}
+use Rattle.editor_language.specs.declared.parts.Known.{Known}
+use Rattle.editor_language.specs.declared.parts.PartProblem.{PartProblem}
+use Rattle.justfile_analysis.specs.Ends.{IsFurther}
+use Rattle.justfile_analysis.specs.Shown.{shown, to_show}
+use Rattle.justfile_analysis.specs.declared.cut.Attempt.{Attempt}
+use Rattle.justfile_analysis.specs.declared.cut.Attempt.TheVariants.{Found, Further}
+
+-- these are the items of a file of a text of this length
+abbrev pub AreItems : (length : ℕ) → Ast → List Item → Type 0
+AreItems length ast items = map shown items ≡ map to_show (file_seen length 0 ast)
+
+-- nothing is wrong, and the items are those of a file
+pub record IsRight (length : ℕ) (ast : Ast) (known : Known) : Type 0 where
+  pub none_wrong : known.problem ≡ None
+  pub items_are : AreItems length ast known.items.items
+
+-- What is before the last byte of this was read up to that byte, and is a justfile by itself, of which this is known.
+pub record IsRead (src : List ℕ) (known : Known) : Type 0 where
+  pub ast : Ast
+  pub part : IsPart conditions (codes "justfile") src 0 [] ast
+  pub right : IsRight (length src - 1) ast known
+
+-- the text is a justfile, of which this is known
+pub record IsFile (text : List ℕ) (known : Known) : Type 0 where
+  pub ast : Ast
+  pub root : IsRoot (codes "justfile") text ast
+  pub right : IsRight (length text) ast known
+
+-- the text is none
+pub record IsNone (text : List ℕ) : Type 0 where
+  pub fault : Fault
+  pub no_root : HasNoRoot (codes "justfile") text fault
+
+-- the items are those of the beginning of what was read, which is a justfile by itself, or there are none
+abbrev pub AreOfFront : (seen : List ℕ) → List Item → Type 0
+AreOfFront seen items =
+    (items ≡ [])
+    ⊎ ((count : ℕ) × (ast : Ast) × IsRoot (codes "justfile") (take count seen) ast × AreItems (length (take count seen)) ast items)
+
+-- The beginning of what was read is no justfile.
+pub record IsWrong (seen : List ℕ) (known : Known) : Type 0 where
+  pub problem : PartProblem
+  pub problem_is : known.problem ≡ Some problem
+  pub count : ℕ
+  pub is_none : IsNone (take count seen)
+  pub items_of_front : AreOfFront seen known.items.items
+
+-- A part of a justfile, by what was read to find it. It was read up to the first byte of the next part, which begins at once on a line of its own; or up
+-- to the end of the text; or it is wrong.
+pub data IsPartOf (is_first : Bool) (seen : List ℕ) (sees_end : Bool) (p : Part Known) : Type 0 where
+  read : IsRead seen p.known → before is_first + p.size + 1 ≡ length seen → slice_index seen (length seen - 2) ≡ 10
+      → is_blank_or_line_end (slice_index seen (length seen - 1)) ≡ false → IsPartOf is_first seen sees_end p
+  last : sees_end ≡ true → IsFile seen p.known → before is_first + p.size ≡ length seen → IsPartOf is_first seen sees_end p
+  wrong : IsWrong seen p.known → IsPartOf is_first seen sees_end p
+
+-- ---- while a part is found
+
+-- This is the next part of a text from an offset on.
+pub record IsFound (text : List ℕ) (start : ℕ) (p : Part Known) : Type 0 where
+  pub next : IsNext IsPartOf (nat_eq start 0) (drop (start - 1) text) p
+  pub ends : IsPartEnd text start p.size
+
+-- the part is found, or its end is further on
+abbrev pub IsAttempt : (text : List ℕ) (start end : ℕ) → Attempt → Type 0
+IsAttempt text start end (Found p) = IsFound text start p
+IsAttempt text start end (Further further) = IsFurther text end further
+
+-- what is in a text from one offset on up to another one, with the line feed before it
+abbrev pub read_of : (text : List ℕ) (start end : ℕ) → List ℕ
+read_of text start end = slice_range text (start - 1) end
+
+-- the items are those of the lines before another one, which are a justfile by themselves, or there are none
+abbrev pub AreBefore : (text : List ℕ) (start line : ℕ) → List Item → Type 0
+AreBefore text start line items =
+    (items ≡ [])
+    ⊎ ((ast : Ast) × IsRoot (codes "justfile") (read_of text start line) ast × AreItems (length (read_of text start line)) ast items)

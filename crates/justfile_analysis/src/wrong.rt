@@ -1,0 +1,106 @@
+//! A part of a justfile that is rejected.
+ghost use Rattle.std.specs.Prelude.{◌≡◌, ◌≤◌, ◌<◌, ◌-◌, IfOk, drop, length, nat_eq};
+ghost use Rattle.text_parts.specs.Parts.{IsPartStart};
+ghost use Rattle.justfile_analysis.specs.Ends.{IsEnd};
+ghost use Rattle.justfile_analysis.specs.Parts.{AreBefore, IsFound, IsNone, read_of};
+
+use crate::reading::{KnownQuery, read_start};
+use crate::rejection::{Cause, Rejection};
+use editor_language::{Item, Known};
+use justfile_canonical::reading::query_root;
+use justfile_recovery::{line_start, next_start};
+use justfile_token::Fault;
+use std::alloc::{AllocError, Global};
+use text_parts::Part;
+
+/// Returns the part of a text that begins at an offset and is rejected up to an end. What is in the
+/// lines before its error is known. It ends where an item may begin after the error.
+pub(crate) fn wrong_part(
+    alloc: Global,
+    text: &str,
+    start: usize,
+    end: usize,
+    rejection: Rejection,
+) -> Result<Part<Known>, AllocError>
+    requires start { IsPartStart text.now start }
+    requires end { IsEnd text.now start end }
+    requires rejected { IsNone (read_of text.now start end) }
+    ensures { IfOk result (IsFound text.now start) }
+{
+    let at = error_place(start, end, &rejection);
+    let items = items_before(alloc, text, start, line_of(text, start, at))?;
+    let next = next_part(text.as_bytes(), at, end);
+    Ok(Part {
+        size: next - start,
+        reach: reach_of(text, start, end, rejection.cause),
+        known: Known {
+            items,
+            problem: Some(rejection.problem),
+        },
+    })
+}
+
+/// Returns the offset of an error of a part.
+fn error_place(start: usize, end: usize, rejection: &Rejection) -> usize
+    requires { start ≤ end }
+    ensures after { start ≤ result }
+    ensures before { result ≤ end }
+{
+    read_start(start)
+        .saturating_add(rejection.problem.span.start)
+        .max(start)
+        .min(end)
+}
+
+/// Returns the beginning of the line of an offset in a part.
+fn line_of(text: &str, start: usize, at: usize) -> usize
+    requires within { at ≤ length text.now }
+    requires after { start ≤ at }
+    ensures after { start ≤ result }
+    ensures before { result ≤ at }
+{
+    line_start(text.as_bytes(), at).max(start)
+}
+
+/// Returns where the next part begins after an error at an offset: not after an end.
+fn next_part(bytes: &[u8], at: usize, end: usize) -> usize
+{
+    next_start(bytes, at.saturating_add(1).min(bytes.len())).min(end)
+}
+
+/// Returns how many bytes from its beginning on were read of a part that is rejected up to an end. For
+/// the end of a literal all of the text is looked through.
+fn reach_of(text: &str, start: usize, end: usize, cause: Cause) -> usize {
+    let read = match cause {
+        Cause::OpenLiteral(_) => text.len(),
+        _ => end,
+    };
+    read - start + 1
+}
+
+/// Returns what is known of the lines of a part before the line of its error, if they are a justfile by
+/// themselves.
+fn items_before(
+    alloc: Global,
+    text: &str,
+    start: usize,
+    line: usize,
+) -> Result<Vec<Item>, AllocError>
+    ensures { IfOk result (λ items. AreBefore text.now start line items.items) }
+{
+    if line <= start {
+        return Ok(Vec::new(alloc));
+    }
+    let Some(read) = text.get(read_start(start)..line) else {
+        return Ok(Vec::new(alloc));
+    };
+    let query = KnownQuery {
+        text: read,
+        is_later: start > 0,
+    };
+    match query_root(alloc, "justfile", read, &query) {
+        Ok(known) => Ok(known.items),
+        Err(Fault::Memory) => Err(AllocError),
+        Err(_) => Ok(Vec::new(alloc)),
+    }
+}
