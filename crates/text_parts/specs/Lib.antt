@@ -1,0 +1,3 @@
+pub mod Found
+pub mod Parts
+pub mod Places
