@@ -13,6 +13,7 @@ mod cut;
 mod found;
 mod part;
 mod parts;
+mod shared;
 
 pub use cut::Cut;
 pub use part::Part;
