@@ -5,6 +5,7 @@ use Rattle.std.proofs.lemmas.Bool.Decides.{nat_tests}
 use Rattle.std.proofs.lemmas.List.{drop-drop, length-drop}
 use Rattle.text_parts.specs.declared.part.Part.{Part}
 use Rattle.text_parts.specs.Found.{IsFound}
+use Rattle.text_parts.specs.Kept.{IsBegun}
 use Rattle.text_parts.specs.Parts.{AreFrom, AreParts, IsNext, IsPart, before}
 use Rattle.text_parts.specs.Places.{IsPartEnd, IsPartStart}
 
@@ -43,12 +44,7 @@ module _ {K : Type 0} (is_part : IsPart K) (text : List ℕ) where
   abbrev pub Fits : List (Part K) → ℕ → Type 0
   Fits done at = (parts : List (Part K)) → AreFrom is_part text at parts → AreFrom is_part text 0 (done ++ parts)
 
-  -- the same, and a part begins there
-  pub record IsBegun (done : List (Part K)) (at : ℕ) : Type 0 where
-    pub start : IsPartStart text at
-    pub fits : Fits done at
-
-  pub begun_first : IsBegun [] 0
+  pub begun_first : IsBegun is_part text [] 0
   begun_first = record { start = inl refl; fits = λ parts h. h }
 
   pub fits_more : (done : List (Part K)) (at : ℕ) (part : Part K) → Fits done at → IsAt at part → 0 < part.size → at + part.size < length text
@@ -57,21 +53,27 @@ module _ {K : Type 0} (is_part : IsPart K) (text : List ℕ) where
       subst (AreFrom is_part text 0) (sym (append_assoc done (part ∷ []) parts)) (f (part ∷ parts) (more_from at part parts n some within h))
 
   -- one more part was found, and the text goes on
-  pub begun_more : (done new : List (Part K)) (at end : ℕ) → IsBegun done at → IsFound is_part text at done new end → end ≢ length text
-      → IsBegun new end
+  pub begun_more : (done new : List (Part K)) (at end : ℕ) → IsBegun is_part text done at → IsFound is_part text at done new end → end ≢ length text
+      → IsBegun is_part text new end
   begun_more done new at end b f h = elim (f.ends) [
     | inl e ↦ absurd (h (f.end_is ∙ e))
     | inr s ↦
-      subst (IsBegun new) (sym f.end_is)
-      (subst (λ l. IsBegun l (at + f.part.size)) (sym f.appended)
+      subst (IsBegun is_part text new) (sym f.end_is)
+      (subst (λ l. IsBegun is_part text l (at + f.part.size)) (sym f.appended)
       (record { start = inr s.1; fits = fits_more done at f.part b.fits f.next s.0 s.1.within }))
   ]
 
   -- one more part was found, and the text is at its end
-  pub all_found : (done new : List (Part K)) (at end : ℕ) → IsBegun done at → IsFound is_part text at done new end → end ≡ length text
+  pub all_found : (done new : List (Part K)) (at end : ℕ) → IsBegun is_part text done at → IsFound is_part text at done new end → end ≡ length text
       → AreParts is_part true text new
   all_found done new at end b f h =
       subst (AreParts is_part true text) (sym f.appended) (b.fits (f.part ∷ []) (last_from at f.part f.next (sym f.end_is ∙ h)))
+
+  pub next_start : (done new : List (Part K)) (at end : ℕ) → IsFound is_part text at done new end → end ≢ length text → IsPartStart text end
+  next_start done new at end f h = elim (f.ends) [
+    | inl e ↦ absurd (h (f.end_is ∙ e))
+    | inr s ↦ subst (IsPartStart text) (sym f.end_is) (inr s.1)
+  ]
 
   pub end_above : (done new : List (Part K)) (at end : ℕ) → IsFound is_part text at done new end → end ≢ length text → at < end
   end_above done new at end f h = elim (f.ends) [ inl e ↦ absurd (h (f.end_is ∙ e)) | inr s ↦ omega (arith, s.0, f.end_is) ]

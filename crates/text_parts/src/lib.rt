@@ -9,12 +9,14 @@
 //! What the parts are is told by who cuts the text.
 #![tactic(auto)]
 
+mod after;
 mod cut;
 mod found;
 mod part;
 mod parts;
 mod shared;
 
+pub use after::parts_after;
 pub use cut::Cut;
 pub use part::Part;
 pub use parts::parts_of;

@@ -1,5 +1,5 @@
 use Rattle.std.proofs.Common.{◌-◌, length}
-use Rattle.text_parts.proofs.Fitting.{IsBegun}
+use Rattle.text_parts.specs.Kept.{IsBegun}
 use Rattle.text_parts.proofs.parts.parts_of.Given as goal
 
 abbrev pub invariant-parts : goal.invariant-parts
