@@ -1,5 +1,5 @@
 -- Parts that were found so far, and those from there on, are parts of a text.
-use Rattle.std.proofs.Common.{◌≡◌, ◌⊎◌, ◌∙◌, ℕ, zero, suc, ◌+◌, ◌-◌, ◌<◌, ◌≤◌, ◌≢◌, Bool, true, false, List, [], ◌∷◌, ◌++◌, length, take, drop, inl, inr, refl, sym, ap, subst, arith, append_assoc}
+use Rattle.std.proofs.Common.{◌≡◌, ◌∙◌, ℕ, zero, suc, ◌+◌, ◌-◌, ◌<◌, ◌≤◌, ◌≢◌, true, false, List, [], ◌∷◌, ◌++◌, length, drop, inl, inr, refl, sym, ap, subst, arith, append_assoc}
 use Rattle.std.specs.Prelude.{nat_eq}
 use Rattle.std.proofs.lemmas.Bool.Decides.{nat_tests}
 use Rattle.std.proofs.lemmas.List.{drop-drop, length-drop}
@@ -7,7 +7,7 @@ use Rattle.text_parts.specs.declared.part.Part.{Part}
 use Rattle.text_parts.specs.Found.{IsFound}
 use Rattle.text_parts.specs.Kept.{IsBegun}
 use Rattle.text_parts.specs.Parts.{AreFrom, AreParts, IsNext, IsPart, before}
-use Rattle.text_parts.specs.Places.{IsPartEnd, IsPartStart}
+use Rattle.text_parts.specs.Places.{IsPartStart}
 
 -- ---- places
 
@@ -58,9 +58,9 @@ module _ {K : Type 0} (is_part : IsPart K) (text : List ℕ) where
   begun_more done new at end b f h = elim (f.ends) [
     | inl e ↦ absurd (h (f.end_is ∙ e))
     | inr s ↦
-      subst (IsBegun is_part text new) (sym f.end_is)
-      (subst (λ l. IsBegun is_part text l (at + f.part.size)) (sym f.appended)
-      (record { start = inr s.1; fits = fits_more done at f.part b.fits f.next s.0 s.1.within }))
+        subst (IsBegun is_part text new) (sym f.end_is)
+        (subst (λ l. IsBegun is_part text l (at + f.part.size)) (sym f.appended)
+        (record { start = inr s.1; fits = fits_more done at f.part b.fits f.next s.0 s.1.within }))
   ]
 
   -- one more part was found, and the text is at its end

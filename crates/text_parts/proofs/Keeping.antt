@@ -1,6 +1,6 @@
 -- Parts of an old text are parts of the text.
-use Rattle.std.proofs.Common.{◌≡◌, ◌⊎◌, ◌∙◌, ℕ, suc, ◌+◌, ◌-◌, ◌<◌, ◌≤◌, Bool, true, false, List, [], ◌∷◌, ◌++◌, length, take, drop, get_or, inl, inr, refl, sym, ap, subst, arith, drop-cons}
-use Rattle.std.specs.Prelude.{nat_eq, nat_lt}
+use Rattle.std.proofs.Common.{◌≡◌, ◌∙◌, ℕ, suc, ◌+◌, ◌-◌, ◌<◌, ◌≤◌, Bool, true, false, List, [], ◌∷◌, ◌++◌, length, take, drop, get_or, inl, inr, sym, ap, subst, arith, drop-cons}
+use Rattle.std.specs.Prelude.{nat_eq}
 use Rattle.std.proofs.lemmas.Bool.{le-ltb}
 use Rattle.std.proofs.lemmas.List.{drop-drop, drop-take, length-drop, take-take, take_more}
 use Rattle.text_parts.specs.declared.after.Place.{Place}
@@ -8,7 +8,6 @@ use Rattle.text_parts.specs.declared.part.Part.{Part}
 use Rattle.text_parts.specs.declared.shared.Shared.{Shared}
 use Rattle.text_parts.specs.Kept.{AreLeft, AreOld, IsBegun, IsKeptTo}
 use Rattle.text_parts.specs.Parts.{AreFrom, AreParts, IsNext, IsPart, before, seen, sees_end}
-use Rattle.text_parts.specs.Places.{IsPartStart}
 use Rattle.text_parts.specs.Shared.{IsShared}
 use Rattle.text_parts.proofs.Fitting.{before_at, fits_more, not_first, rest_after}
 
@@ -76,16 +75,16 @@ module _ (old text : List ℕ) (shared : Shared) (s : IsShared old text shared) 
         let size = before b + part.reach in
         let place : at - 1 + size ≡ at + part.reach = omega (arith, before_at at) in
         let read : (l : List ℕ) → seen b part.reach (drop (at - 1) l) ≡ drop (at - 1) (take (at + part.reach) l) = λ l.
-            sym (drop-take (at - 1) size l) ∙ ap (λ k. drop (at - 1) (take k l)) place
+        sym (drop-take (at - 1) size l) ∙ ap (λ k. drop (at - 1) (take k l)) place
         in
         let no_end : (l : List ℕ) → shared.front ≤ length l → sees_end b part.reach (drop (at - 1) l) ≡ false = λ l within.
-            le-ltb (length (drop (at - 1) l)) size (omega (arith, length-drop (at - 1) l, before_at at, h, within))
+        le-ltb (length (drop (at - 1) l)) size (omega (arith, length-drop (at - 1) l, before_at at, h, within))
         in
         let same : seen b part.reach (drop (at - 1) old) ≡ seen b part.reach (drop (at - 1) text) =
-            read old ∙ ap (drop (at - 1)) (front_same (at + part.reach) h) ∙ sym (read text)
+        read old ∙ ap (drop (at - 1)) (front_same (at + part.reach) h) ∙ sym (read text)
         in
         let ends : sees_end b part.reach (drop (at - 1) old) ≡ sees_end b part.reach (drop (at - 1) text) =
-            no_end old s.front_in_old ∙ sym (no_end text s.front_in_new)
+        no_end old s.front_in_old ∙ sym (no_end text s.front_in_new)
         in
         subst (λ e. is_part b (seen b part.reach (drop (at - 1) text)) e part) ends
         (subst (λ l. is_part b l (sees_end b part.reach (drop (at - 1) old)) part) same n)
@@ -98,8 +97,8 @@ module _ (old text : List ℕ) (shared : Shared) (s : IsShared old text shared) 
       fits =
           subst (λ n. (ps : List (Part K)) → AreFrom is_part text n ps → AreFrom is_part text 0 ((done ++ (part ∷ [])) ++ ps)) (sym k.end_is)
           (fits_more is_part text done at part b.fits
-            (next_same at part k.read (first_next is_part (nat_eq at 0) (drop (at - 1) old) part parts h))
-            k.some (omega (arith, k.end_is, k.line.within)));
+          (next_same at part k.read (first_next is_part (nat_eq at 0) (drop (at - 1) old) part parts h))
+          k.some (omega (arith, k.end_is, k.line.within)));
     }
 
     module _ (parts : List (Part K)) (count : ℕ) (part : Part K) (within : count < length parts) (is : part ≡ get_or parts count part)
@@ -121,13 +120,13 @@ module _ (old text : List ℕ) (shared : Shared) (s : IsShared old text shared) 
     all_kept done parts place b o within same later =
         let ps = drop place.index parts in
         let here : AreFrom is_part old (length old - place.left) ps =
-            some_left is_part old (length old - place.left) ps (omega (arith, within, length-drop place.index parts)) o.left
+        some_left is_part old (length old - place.left) ps (omega (arith, within, length-drop place.index parts)) o.left
         in
         let at_in : place.at ≤ length text = elim (b.start) [ inl e ↦ omega (arith, e) | inr l ↦ omega (arith, l.within) ] in
         let at_is : length text - place.left - 1 ≡ place.at - 1 = omega (arith, same, at_in) in
         let both_later : nat_eq (length old - place.left) 0 ≡ nat_eq place.at 0 =
-            not_first (length old - place.left) (omega (arith, later, s.end_in_old))
-            ∙ sym (not_first place.at (omega (arith, same, later, s.end_in_new)))
+        not_first (length old - place.left) (omega (arith, later, s.end_in_old))
+        ∙ sym (not_first place.at (omega (arith, same, later, s.end_in_new)))
         in
         b.fits ps
         (subst (λ c. AreParts is_part c (drop (place.at - 1) text) ps) both_later
@@ -142,7 +141,7 @@ more_passed {K} is_part old parts part place next within is index_is left_is o =
     let at = length old - place.left in
     let here : AreFrom is_part old at (part ∷ drop (place.index + 1) parts) = left_item is_part old at parts place.index part within is o.left in
     let place_is : at + part.size ≡ length old - next.left =
-        omega (arith, end_within is_part old at part (drop (place.index + 1) parts) here, o.within, left_is)
+    omega (arith, end_within is_part old at part (drop (place.index + 1) parts) here, o.within, left_is)
     in
     record {
       within = omega (arith, left_is, o.within);
@@ -151,3 +150,17 @@ more_passed {K} is_part old parts part place next within is index_is left_is o =
           (subst (λ n. AreLeft is_part old n (drop (place.index + 1) parts)) place_is
           (left_after is_part old at part (drop (place.index + 1) parts) here));
     }
+
+-- Where the parts begin that are left after the first ones.
+pub old_place : {K : Type 0} (is_part : IsPart K) (old : List ℕ) (parts : List (Part K)) (place : Place) → place.index ≡ 0
+    → place.left ≡ length old - place.at → AreLeft is_part old place.at parts → AreOld is_part old parts place
+old_place {K} is_part old parts place index_is left_is h = record {
+  within = omega (arith, left_is);
+  left = subst (λ n. AreLeft is_part old (length old - place.left) (drop n parts)) (sym index_is) (there parts h);
+}
+  where
+    there : (ps : List (Part K)) → AreLeft is_part old place.at ps → AreLeft is_part old (length old - place.left) ps
+    there [] l = tt
+    there (part ∷ ps) l =
+        subst (λ n. AreFrom is_part old n (part ∷ ps))
+        (omega (arith, end_within is_part old place.at part ps l, left_is)) l

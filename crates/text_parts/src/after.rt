@@ -128,7 +128,7 @@ fn find_until<C: Cut>(
         → IsBegun C.is_part text.now done.old.items place.at
         → AreOld C.is_part old_text parts.now place
         → IfOk result (λ index.
-            AreParts C.is_part true text.now (done.new.items ++ drop index parts.now)) }
+        AreParts C.is_part true text.now (done.new.items ++ drop index parts.now)) }
 {
     'parts: loop {
         let left = text.len() - place.at;

@@ -22,12 +22,7 @@ pub trait Cut {
     /// # Errors
     ///
     /// Memory ran out.
-    fn part(
-        &self,
-        alloc: Global,
-        text: &str,
-        start: usize,
-    ) -> Result<Part<Self::Known>, AllocError>
+    fn part(&self, alloc: Global, text: &str, start: usize) -> Result<Part<Self::Known>, AllocError>
         requires { IsPartStart text.now start }
         ensures part { IfOk result (IsNext is_part (nat_eq start 0) (drop (start - 1) text.now)) }
         ensures ends { IfOk result (λ part. IsPartEnd text.now start part.size) };

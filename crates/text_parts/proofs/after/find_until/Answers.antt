@@ -1,7 +1,7 @@
-use Rattle.std.proofs.Common.{◌≡◌, ◌∙◌, ◌≢◌, ◌++◌, ◌-◌, ◌<◌, List, [], true, drop, length, rules, sym, ap, subst, arith, append-nil}
+use Rattle.std.proofs.Common.{◌≡◌, ◌∙◌, ◌≢◌, ◌++◌, true, drop, length, rules, sym, ap, subst, arith, append-nil}
 use Rattle.std.proofs.Math.Seq.{drop-length}
 use Rattle.text_parts.specs.Found.{IsFound}
-use Rattle.text_parts.specs.Kept.{AreOld, IsBegun}
+use Rattle.text_parts.specs.Kept.{IsBegun}
 use Rattle.text_parts.specs.Parts.{AreParts}
 use Rattle.text_parts.proofs.Fitting.{all_found, begun_more, next_start}
 use Rattle.text_parts.proofs.Keeping.{all_kept}
@@ -13,7 +13,7 @@ returns-then-left-shared-clause-whole g c old_text s b o =
     let parts = c.args.parts.now in
     let text = c.args.text.now in
     let begun : IsBegun g.C.Cut.is_part text c.parts.done.items place.at =
-        subst (IsBegun g.C.Cut.is_part text c.parts.done.items) (sym c.passed-place.ensures.at) (c.parts.invariant.begun b)
+    subst (IsBegun g.C.Cut.is_part text c.parts.done.items) (sym c.passed-place.ensures.at) (c.parts.invariant.begun b)
     in
     all_kept old_text text c.args.shared s g.C.Cut.is_part c.parts.done.items parts place begun
     (c.passed-place.ensures.old old_text (c.parts.invariant.old old_text o))
@@ -25,12 +25,12 @@ returns-then-place-text-clause-whole g c old_text s b o =
     let done = c.find_part.new.done.items in
     let at_is = c.passed-place.ensures.at in
     let found : IsFound g.C.Cut.is_part c.args.text.now c.parts.place.at c.parts.done.items done c.in_ok-place.field-0 =
-        subst (λ n. IsFound g.C.Cut.is_part c.args.text.now n c.parts.done.items done c.in_ok-place.field-0) at_is c.in_ok-place.ensures
+    subst (λ n. IsFound g.C.Cut.is_part c.args.text.now n c.parts.done.items done c.in_ok-place.field-0) at_is c.in_ok-place.ensures
     in
     let nothing : done ++ drop (length parts) parts ≡ done = ap (λ l. done ++ l) (drop-length parts) ∙ append-nil done in
     subst (AreParts g.C.Cut.is_part true c.args.text.now) (sym nothing)
     (all_found g.C.Cut.is_part c.args.text.now c.parts.done.items done c.parts.place.at c.in_ok-place.field-0
-      (c.parts.invariant.begun b) found (search (rules, c.if-place-text.true)))
+    (c.parts.invariant.begun b) found (search (rules, c.if-place-text.true)))
 
 pub parts-preserved : goal.parts-preserved
 parts-preserved g c =
@@ -40,7 +40,7 @@ parts-preserved g c =
     let end = c.in_ok-place.field-0 in
     let goes_on : end ≢ length text = search (rules, c.if-place-text.false) in
     let found : IsFound g.C.Cut.is_part text c.parts.place.at c.parts.done.items done end =
-        subst (λ n. IsFound g.C.Cut.is_part text n c.parts.done.items done end) c.passed-place.ensures.at c.in_ok-place.ensures
+    subst (λ n. IsFound g.C.Cut.is_part text n c.parts.done.items done end) c.passed-place.ensures.at c.in_ok-place.ensures
     in
     record {
       start = next_start g.C.Cut.is_part text c.parts.done.items done c.parts.place.at end found goes_on;

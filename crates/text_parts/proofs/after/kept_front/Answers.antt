@@ -11,7 +11,7 @@ loop-count-preserved g c =
     let now = c.loop-count in
     let within : now.count < length parts = omega (arith, c.loop-count-test.true) in
     let kept : IsKeptTo text now.end c.args.shared.front part c.in-Some.next =
-        subst (λ t. IsKeptTo t now.end c.args.shared.front part c.in-Some.next) c.as_bytes.ensures.value c.in-Some.ensures
+    subst (λ t. IsKeptTo t now.end c.args.shared.front part c.in-Some.next) c.as_bytes.ensures.value c.in-Some.ensures
     in
     record {
       start = inr kept.line;

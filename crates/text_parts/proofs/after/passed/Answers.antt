@@ -1,4 +1,4 @@
-use Rattle.std.proofs.Common.{rules, ◌≡◌, ◌<◌, get_or, length, refl, arith}
+use Rattle.std.proofs.Common.{rules, ◌≡◌, ◌<◌, get_or, length, refl}
 use Rattle.text_parts.proofs.Keeping.{more_passed}
 use Rattle.text_parts.proofs.after.passed.Goals as goal
 

@@ -1,5 +1,5 @@
-use Rattle.std.proofs.Common.{◌≡◌, ◌≢◌, length, rules, arith}
-use Rattle.text_parts.proofs.Fitting.{all_found, begun_first, begun_more, end_above}
+use Rattle.std.proofs.Common.{rules}
+use Rattle.text_parts.proofs.Fitting.{all_found, begun_more}
 use Rattle.text_parts.proofs.parts.parts_of.Goals as goal
 
 pub returns-then-at-text : goal.returns-then-at-text

@@ -1,4 +1,4 @@
-use Rattle.std.proofs.Common.{◌≡◌, ◌∙◌, ℕ, ◌+◌, ◌-◌, ◌*◌, ◌≤◌, List, length, take, drop, sym, ap, subst, arith}
+use Rattle.std.proofs.Common.{◌≡◌, ◌∙◌, ℕ, ◌+◌, ◌-◌, ◌*◌, ◌≤◌, List, length, take, drop, sym, subst, arith}
 use Rattle.text_parts.proofs.SharedEnds.{end_more, same_block}
 use Rattle.text_parts.proofs.shared.equal_end.Goals as goal
 
@@ -12,9 +12,9 @@ loop-block-preserved c =
     let next : n + 256 ≡ (c.loop-block.block + 1) * 256 = omega arith in
     let part = λ (text : List ℕ). take (length text - n - (length text - n - 256)) (drop (length text - n - 256) text) in
     let is : (text : List ℕ) → n + 256 ≤ length text → part text ≡ take 256 (drop (length text - (n + 256)) text) = λ text within.
-        let size : length text - n - (length text - n - 256) ≡ 256 = omega (arith, within) in
-        let place : length text - n - 256 ≡ length text - (n + 256) = omega (arith, within) in
-        λ i. take (size i) (drop (place i) text)
+    let size : length text - n - (length text - n - 256) ≡ 256 = omega (arith, within) in
+    let place : length text - n - 256 ≡ length text - (n + 256) = omega (arith, within) in
+    λ i. take (size i) (drop (place i) text)
     in
     let same : part old ≡ part new = same_block (part old) (part new) c.if-ne.ensures in
     subst (λ (k : ℕ). drop (length old - k) old ≡ drop (length new - k) new) next

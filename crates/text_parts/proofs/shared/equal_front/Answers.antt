@@ -1,4 +1,4 @@
-use Rattle.std.proofs.Common.{◌≡◌, ◌∙◌, ℕ, ◌+◌, ◌-◌, ◌*◌, length, take, drop, sym, ap, subst, arith}
+use Rattle.std.proofs.Common.{◌≡◌, ℕ, ◌+◌, ◌-◌, ◌*◌, take, drop, subst, arith}
 use Rattle.text_parts.proofs.SharedEnds.{front_more, same_block}
 use Rattle.text_parts.proofs.shared.equal_front.Goals as goal
 
