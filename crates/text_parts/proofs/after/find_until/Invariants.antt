@@ -1,0 +1,15 @@
+use Rattle.std.proofs.Common.{ℕ, ◌-◌, List, length}
+use Rattle.text_parts.specs.Kept.{AreOld, IsBegun}
+use Rattle.text_parts.specs.Places.{IsPartStart}
+use Rattle.text_parts.proofs.after.find_until.Given as goal
+
+abbrev pub invariant-parts : goal.invariant-parts
+invariant-parts g l =
+    record {
+      start : IsPartStart l.text l.place.at;
+      begun : IsBegun g.C.Cut.is_part l.text l.initial.done.items l.initial.place.at → IsBegun g.C.Cut.is_part l.text l.done.items l.place.at;
+      old : (old : List ℕ) → AreOld g.C.Cut.is_part old l.parts l.initial.place → AreOld g.C.Cut.is_part old l.parts l.place;
+    }
+
+abbrev pub decreases-parts : goal.decreases-parts
+decreases-parts g l = length l.text - l.place.at

@@ -1,0 +1,17 @@
+use Rattle.std.proofs.Common.{rules, ◌≡◌, ◌<◌, get_or, length, refl}
+use Rattle.text_parts.proofs.Keeping.{more_passed}
+use Rattle.text_parts.proofs.after.passed.Goals as goal
+
+pub old-preserved : goal.old-preserved
+old-preserved g c =
+    let parts = c.args.parts.now in
+    let part = c.in-Some.part.now in
+    let now = c.old.place in
+    let lookup = c.in-Some.ensures.lookup in
+    let within : now.index < length parts = search rules in
+    let is : part ≡ get_or parts now.index part = search rules in
+    record {
+      at = c.old.invariant.at;
+      old = λ old h.
+          more_passed g.C.Cut.is_part old parts part now _ within is refl c.saturating_sub.ensures (c.old.invariant.old old h);
+    }

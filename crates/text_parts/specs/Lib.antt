@@ -1,0 +1,5 @@
+pub mod Found
+pub mod Kept
+pub mod Parts
+pub mod Places
+pub mod Shared
