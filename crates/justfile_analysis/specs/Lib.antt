@@ -2,4 +2,6 @@ pub mod Ends
 pub mod InText
 pub mod Knowledge
 pub mod Parts
+pub mod RightParts
+pub mod SeenParts
 pub mod Shown

@@ -1,7 +1,8 @@
 -- The parts of a justfile, and what is known of each.
-use Rattle.std.specs.Prelude.{◌≡◌, ◌⊎◌, ℕ, ◌+◌, ◌-◌, Bool, true, false, List, [], map, take, drop, length, nat_eq, slice_index, Option, None, Some, codes}
+use Rattle.std.specs.Prelude.{◌≡◌, ◌⊎◌, ℕ, ◌+◌, ◌-◌, Bool, false, true, List, [], map, take, drop, length, nat_eq, slice_index, Option, None, Some, codes}
 use Rattle.std.specs.List.{slice_range}
-use Rattle.text_parts.specs.Parts.{IsNext, IsPartEnd, before}
+use Rattle.text_parts.specs.Parts.{IsNext, before}
+use Rattle.text_parts.specs.Places.{IsPartEnd}
 use Rattle.text_parts.specs.declared.part.Part.{Part}
 use Rattle.justfile_token.specs.declared.fault.Fault.{Fault}
 use Rattle.justfile_model.specs.Lexing.BlankLines.{is_blank_or_line_end}
@@ -60,7 +61,7 @@ pub record IsWrong (seen : List ℕ) (known : Known) : Type 0 where
 -- A part of a justfile, by what was read to find it. It was read up to the first byte of the next part, which begins at once on a line of its own; or up
 -- to the end of the text; or it is wrong.
 pub data IsPartOf (is_first : Bool) (seen : List ℕ) (sees_end : Bool) (p : Part Known) : Type 0 where
-  read : IsRead seen p.known → before is_first + p.size + 1 ≡ length seen → slice_index seen (length seen - 2) ≡ 10
+  read : sees_end ≡ false → IsRead seen p.known → before is_first + p.size + 1 ≡ length seen → slice_index seen (length seen - 2) ≡ 10
       → is_blank_or_line_end (slice_index seen (length seen - 1)) ≡ false → IsPartOf is_first seen sees_end p
   last : sees_end ≡ true → IsFile seen p.known → before is_first + p.size ≡ length seen → IsPartOf is_first seen sees_end p
   wrong : IsWrong seen p.known → IsPartOf is_first seen sees_end p

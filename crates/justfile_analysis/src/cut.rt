@@ -1,6 +1,6 @@
 //! How a justfile is cut into parts: each is found from what is left of the text.
 ghost use Rattle.std.specs.Prelude.{◌<◌, ◌≤◌, ◌-◌, IfOk, drop, length, nat_eq};
-ghost use Rattle.text_parts.specs.Parts.{IsPartStart};
+ghost use Rattle.text_parts.specs.Places.{IsPartStart};
 ghost use Rattle.justfile_analysis.specs.Ends.{IsEnd};
 ghost use Rattle.justfile_analysis.specs.Parts.{IsAttempt, IsFound, IsNone, IsPartOf, read_of};
 

@@ -1,6 +1,6 @@
 //! Where a part of a justfile may end.
 ghost use Rattle.std.specs.Prelude.{◌<◌, ◌≤◌, IfSome, length};
-ghost use Rattle.text_parts.specs.Parts.{IsPartStart};
+ghost use Rattle.text_parts.specs.Places.{IsPartStart};
 ghost use Rattle.justfile_analysis.specs.Ends.{IsEnd, IsFurther};
 
 use crate::reading::read_start;

@@ -1,6 +1,6 @@
 //! Reading a part of a justfile.
 ghost use Rattle.std.specs.Prelude.{◌≡◌, ◌<◌, ◌-◌, IfOk, IfSome, drop, length, nat_eq, take};
-ghost use Rattle.text_parts.specs.Parts.{IsPartStart};
+ghost use Rattle.text_parts.specs.Places.{IsPartStart};
 ghost use Rattle.justfile_canonical.specs.Root.{conditions};
 ghost use Rattle.justfile_parts.specs.Parts.{IsPart};
 ghost use Rattle.justfile_analysis.specs.Ends.{IsEnd};

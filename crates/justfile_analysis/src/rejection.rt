@@ -1,7 +1,7 @@
 //! Why a part of a justfile is rejected.
 ghost use Rattle.std.specs.Prelude.{◌≡◌, ◌<◌, ◌-◌, IfOk, IfSome, codes, length};
 ghost use Rattle.std.specs.List.{slice_range};
-ghost use Rattle.text_parts.specs.Parts.{IsPartStart};
+ghost use Rattle.text_parts.specs.Places.{IsPartStart};
 ghost use Rattle.justfile_canonical.specs.Root.{HasNoRoot};
 ghost use Rattle.justfile_analysis.specs.Ends.{IsEnd};
 ghost use Rattle.justfile_analysis.specs.Parts.{IsNone, read_of};

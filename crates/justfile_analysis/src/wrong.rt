@@ -1,6 +1,6 @@
 //! A part of a justfile that is rejected.
 ghost use Rattle.std.specs.Prelude.{◌≡◌, ◌≤◌, ◌<◌, ◌-◌, IfOk, drop, length, nat_eq};
-ghost use Rattle.text_parts.specs.Parts.{IsPartStart};
+ghost use Rattle.text_parts.specs.Places.{IsPartStart};
 ghost use Rattle.justfile_analysis.specs.Ends.{IsEnd};
 ghost use Rattle.justfile_analysis.specs.Parts.{AreBefore, IsFound, IsNone, read_of};
 

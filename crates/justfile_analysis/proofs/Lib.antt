@@ -1,0 +1,2 @@
+pub mod RightParts
+pub mod SeenParts
