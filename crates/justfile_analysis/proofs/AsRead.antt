@@ -40,31 +40,25 @@ none_wrong (p ∷ ps) e =
 
 -- ---- a part that was read up to the first byte of the next one
 
-module _ (text : List ℕ) (next : ℕ) where
-  abbrev seen : List ℕ
-  seen = text ++ (next ∷ [])
+-- What was read has two bytes: a line feed, and the next one, which is another byte.
+two_read : (seen : List ℕ) → slice_index seen (length seen - 2) ≡ 10 → is_blank_or_line_end (slice_index seen (length seen - 1)) ≡ false → 1 < length seen
+two_read [] feed other = absurd (omega (arith, feed))
+two_read (b ∷ []) feed other = absurd (true≢false (ap is_blank_or_line_end (sym feed) ∙ other))
+two_read (b ∷ c ∷ seen) feed other = omega arith
 
+module _ (seen text : List ℕ) (next : ℕ) (seen_is : seen ≡ text ++ (next ∷ [])) where
   long : length seen ≡ length text + 1
-  long = length-append text (next ∷ [])
+  long = ap length seen_is ∙ length-append text (next ∷ [])
 
-  last_is : slice_index seen (length seen - 1) ≡ next
-  last_is =
-      let at : length seen - 1 ≡ length text + 0 = omega (arith, long) in
-      ap (slice_index seen) at ∙ get_or-append-add text (next ∷ []) 0 0
+  next_is_other : is_blank_or_line_end (slice_index seen (length seen - 1)) ≡ false → is_blank_or_line_end next ≡ false
+  next_is_other other =
+      let at : length text + 0 ≡ length seen - 1 = omega (arith, long) in
+      ap is_blank_or_line_end (sym (get_or-append-add text (next ∷ []) 0 0) ∙ (λ i. slice_index (sym seen_is i) (at i))) ∙ other
 
-  is_other : is_blank_or_line_end (slice_index seen (length seen - 1)) ≡ false → is_blank_or_line_end next ≡ false
-  is_other other = sym (ap is_blank_or_line_end last_is) ∙ other
-
-  feed_before : 0 < length text → slice_index seen (length seen - 2) ≡ 10 → slice_index text (length text - 1) ≡ 10
-  feed_before some feed =
+  ends_in_feed : 1 < length seen → slice_index seen (length seen - 2) ≡ 10 → slice_index text (length text - 1) ≡ 10
+  ends_in_feed two feed =
       let at : length text - 1 ≡ length seen - 2 = omega (arith, long) in
-      sym (get_or_append_left text (next ∷ []) 0 (length text - 1) (omega (arith, some))) ∙ ap (slice_index seen) at ∙ feed
-
--- The byte before the next one is a line feed, and the next one isn't.
-some_before : (text : List ℕ) (next : ℕ) → slice_index (text ++ (next ∷ [])) (length (text ++ (next ∷ [])) - 2) ≡ 10 → is_blank_or_line_end next ≡ false
-    → 0 < length text
-some_before [] next feed other = absurd (true≢false (ap is_blank_or_line_end (sym feed) ∙ other))
-some_before (b ∷ text) next feed other = omega arith
+      sym (get_or_append_left text (next ∷ []) 0 (length text - 1) (omega (arith, two, long))) ∙ (λ i. slice_index (sym seen_is i) (at i)) ∙ feed
 
 -- ---- what a part was read as
 
@@ -78,24 +72,21 @@ as_read : (is_first : Bool) (seen : List ℕ) (sees_end : Bool) (p : Part Known)
     → IsAsRead conditions IsAbout is_first seen sees_end p
 unfolding IsNotWrong
 as_read is_first seen sees_end p (parts.read e h size feed other) right =
-    let src_is = h.part.src_is in
-    let seen_long : length seen ≡ length h.part.text + 1 = ap length src_is ∙ long h.part.text h.part.next in
+    let text = h.part.text in
+    let next = h.part.next in
+    let seen_long = long seen text next h.part.src_is in
     let read_long : length seen - 1 ≡ before is_first + p.size = omega (arith, size) in
-    let next_other : is_blank_or_line_end h.part.next ≡ false =
-    is_other h.part.text h.part.next (subst (λ l. is_blank_or_line_end (slice_index l (length l - 1)) ≡ false) src_is other) in
-    let feed_there : slice_index (h.part.text ++ (h.part.next ∷ [])) (length (h.part.text ++ (h.part.next ∷ [])) - 2) ≡ 10 =
-    subst (λ l. slice_index l (length l - 2) ≡ 10) src_is feed in
     record {
       r = read_as h.ast p;
       size_is = refl;
       is_seen = subst (λ b. IsSeen conditions is_first seen b (read_as h.ast p)) (sym e) (record {
-        text = h.part.text;
-        next = h.part.next;
-        seen_is = src_is;
+        text = text;
+        next = next;
+        seen_is = h.part.src_is;
         read = h.part.read;
         size_is = omega (arith, size, seen_long);
-        is_other = next_other;
-        feed = feed_before h.part.text h.part.next (some_before h.part.text h.part.next feed_there next_other) feed_there;
+        is_other = next_is_other seen text next h.part.src_is other;
+        feed = ends_in_feed seen text next h.part.src_is (two_read seen feed other) feed;
       });
       about = record { ast = h.ast; read_is = refl; right = subst (λ n. IsRight n h.ast p.known) read_long h.right };
     }
