@@ -1,2 +1,3 @@
+pub mod AsRead
 pub mod RightParts
 pub mod SeenParts
