@@ -7,7 +7,7 @@ ghost use Rattle.editor_language.specs.declared.parts.FileLink.{FileLink};
 ghost use Rattle.editor_language.specs.declared.parts.Finding.{Finding};
 
 use crate::mention::Mention;
-use crate::parts::{Analysis, Choices, Colored, FileLink, Finding, Part, Span};
+use crate::parts::{Analysis, Choices, Colored, FileLink, Finding, Replacement, Span};
 use std::alloc::{AllocError, Global};
 
 /// A language.
@@ -55,10 +55,10 @@ pub trait Language {
         &self,
         alloc: Global,
         old_text: &str,
-        old: &Analysis,
+        old: Analysis,
         text: &str,
     ) -> Result<Analysis, AllocError>
-        ensures { knows old_text.now old.now → IfOk result (knows text.now) };
+        ensures { knows old_text.now old → IfOk result (knows text.now) };
 
     /// Returns what is wrong with what a text says, beside the problems that are known: in the order
     /// of the text, which is that of the document with an address.
@@ -95,7 +95,7 @@ pub trait Language {
         text: &str,
         analysis: &Analysis,
         span: Span,
-    ) -> Result<Vec<Part>, AllocError>;
+    ) -> Result<Vec<Replacement>, AllocError>;
 
     /// Returns where names are defined and used in a text.
     ///

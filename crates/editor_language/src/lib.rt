@@ -9,5 +9,6 @@ mod parts;
 pub use language::Language;
 pub use mention::{Mention, Role, definition_of, is_like, mention_at, mentions_like, same_scope};
 pub use parts::{
-    Analysis, Choices, Colored, FileLink, Finding, Item, OtherPlace, Part, Problem, Span, TokenType,
+    Analysis, Choices, Colored, FileLink, Finding, Item, Known, OtherPlace, PartProblem, Problem,
+    Replacement, Span, TokenType,
 };

@@ -1,5 +1,6 @@
 //! What a text consists of.
 use editor_messages::{Completion, SymbolKind};
+use text_parts::Part;
 
 /// A part of a text: from an offset up to another one.
 #[derive(Clone, Copy)]
@@ -65,9 +66,30 @@ pub struct Analysis {
     pub problems: Vec<Problem>,
     /// The items, in their order.
     pub items: Vec<Item>,
-    /// Whether the span of each item is a part of the text that is known by itself. Then what is known
-    /// of it can be kept where only other parts change.
-    pub in_chunks: bool,
+    /// The parts of the text, each with what is known of it by itself. After a change, those that it
+    /// doesn't concern are kept.
+    pub parts: Vec<Part<Known>>,
+}
+
+/// What is known of a part of a text. Offsets count from the beginning of what was read: for a later
+/// part from the line feed before it.
+#[derive(Drop)]
+pub struct Known {
+    /// The items, in their order.
+    pub items: Vec<Item>,
+    /// What is wrong, if something is.
+    pub problem: Option<PartProblem>,
+}
+
+/// What is wrong in a part.
+#[derive(Drop)]
+pub struct PartProblem {
+    /// Where it is.
+    pub span: Span,
+    /// What is wrong.
+    pub message: String,
+    /// Whether the message names lines, which count from the beginning of what was read.
+    pub names_lines: bool,
 }
 
 /// A part of a text that leads to a file.
@@ -81,7 +103,7 @@ pub struct FileLink {
 
 /// What takes the place of a part of a text.
 #[derive(Drop)]
-pub struct Part {
+pub struct Replacement {
     /// What is replaced.
     pub span: Span,
     /// What it is replaced by.

@@ -22,7 +22,26 @@ known_cond : (P : Document → Type 0) (here : Bool) (new old : Option Document)
 known_cond P true new old h k = h
 known_cond P false new old h k = k
 
+put_over : (here : Bool) (new between old : Option Document) → cond here new (cond here between old) ≡ cond here new old
+put_over true new between old = λ _. new
+put_over false new between old = λ _. old
+
+-- a document was taken out of the list before
+module _ (uri : List ℕ) (old between new : Documents) (taken : Closes uri old between) where
+  over : (d : Option Document) → ((q : List ℕ) → get_by_text new.list q ≡ cond (bytes_eq uri q) d (get_by_text between.list q)) → (q : List ℕ) → get_by_text new.list q ≡ cond (bytes_eq uri q) d (get_by_text old.list q)
+  over d h q = h q ∙ ap (cond (bytes_eq uri q) d) (taken.forgets q) ∙ put_over (bytes_eq uri q) d None (get_by_text old.list q)
+
+  pub loses_taken : Loses uri between new → Loses uri old new
+  loses_taken h = record { forgets = over None h.forgets; lost = h.lost }
+
+  pub stored_taken : (d : Document) → IsStored uri d between new → IsStored uri d old new
+  stored_taken d h = record { is_put = over (Some d) h.is_put; lost = h.lost ∙ taken.lost }
+
 module _ (knows : List ℕ → Analysis → Type 0) where
+  -- the document that is at an address
+  pub known_at : (m : DocumentMap) (uri : List ℕ) (d : Document) → AreKnown knows m → Some d ≡ get_by_text m uri → IsKnown knows d
+  known_at m uri d k e = subst (λ o. IfSome o (IsKnown knows)) (sym e) (k uri)
+
   pub known_empty : (m : DocumentMap) → IsEmpty m → AreKnown knows m
   known_empty m e uri = subst (λ es. IfSome (lookup (is_at (λ k. slice_cmp nat_cmp uri (string_bytes k))) es) (IsKnown knows)) (sym e) tt
 
