@@ -28,14 +28,11 @@ put_over false new between old = λ _. old
 
 -- a document was taken out of the list before
 module _ (uri : List ℕ) (old between new : Documents) (taken : Closes uri old between) where
-  over : (d : Option Document) → ((q : List ℕ) → get_by_text new.list q ≡ cond (bytes_eq uri q) d (get_by_text between.list q)) → (q : List ℕ) → get_by_text new.list q ≡ cond (bytes_eq uri q) d (get_by_text old.list q)
-  over d h q = h q ∙ ap (cond (bytes_eq uri q) d) (taken.forgets q) ∙ put_over (bytes_eq uri q) d None (get_by_text old.list q)
-
-  pub loses_taken : Loses uri between new → Loses uri old new
-  loses_taken h = record { forgets = over None h.forgets; lost = h.lost }
+  put_taken : (d : Document) → IsPut uri d between.list new.list → IsPut uri d old.list new.list
+  put_taken d h q = h q ∙ ap (cond (bytes_eq uri q) (Some d)) (taken.forgets q) ∙ put_over (bytes_eq uri q) (Some d) None (get_by_text old.list q)
 
   pub stored_taken : (d : Document) → IsStored uri d between new → IsStored uri d old new
-  stored_taken d h = record { is_put = over (Some d) h.is_put; lost = h.lost ∙ taken.lost }
+  stored_taken d h = record { is_put = put_taken d h.is_put; lost = h.lost ∙ taken.lost }
 
 module _ (knows : List ℕ → Analysis → Type 0) where
   -- the document that is at an address
