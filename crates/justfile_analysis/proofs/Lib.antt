@@ -1,3 +1,7 @@
 pub mod AsRead
+pub mod FoundParts
+pub mod Lists
 pub mod RightParts
 pub mod SeenParts
+pub mod Starts
+pub mod WrongParts

@@ -1,5 +1,5 @@
 -- The parts of a justfile, and what is known of each.
-use Rattle.std.specs.Prelude.{◌≡◌, ◌⊎◌, ℕ, ◌+◌, ◌-◌, Bool, false, true, List, [], map, take, drop, length, nat_eq, slice_index, Option, None, Some, codes}
+use Rattle.std.specs.Prelude.{◌≡◌, ◌⊎◌, ℕ, ◌+◌, ◌-◌, Bool, false, true, List, [], map, take, drop, length, nat_eq, slice_index, None, Some, codes}
 use Rattle.std.specs.List.{slice_range}
 use Rattle.text_parts.specs.Parts.{IsNext, before}
 use Rattle.text_parts.specs.Places.{IsPartEnd}

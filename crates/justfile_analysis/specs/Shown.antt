@@ -1,5 +1,5 @@
 -- What an editor is shown of items.
-use Rattle.std.specs.Prelude.{◌≡◌, ℕ, List, map, None, string_bytes}
+use Rattle.std.specs.Prelude.{ℕ, List, string_bytes}
 use Rattle.justfile_vocabulary.specs.declared.item_kind.ItemKind.{ItemKind}
 use Rattle.justfile_vocabulary.specs.declared.item_kind.ItemKind.TheVariants as kinds
 use Rattle.justfile_spans.specs.declared.span.Span as texts

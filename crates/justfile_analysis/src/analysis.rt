@@ -41,11 +41,7 @@ pub fn analysis_after(
 }
 
 /// Returns what is known of a text that is cut into parts.
-fn analysis_with(
-    alloc: Global,
-    text: &str,
-    parts: Vec<Part<Known>>,
-) -> Result<Analysis, AllocError>
+fn analysis_with(alloc: Global, text: &str, parts: Vec<Part<Known>>) -> Result<Analysis, AllocError>
     ensures { AreParts IsPartOf true text.now parts.items → IfOk result (Knows text.now) }
 {
     let items = items_in_text(alloc, &parts)?;
@@ -60,5 +56,4 @@ fn analysis_with(
 /// Without problems the text is a justfile, and the items are those of its tree.
 pub fn right_texts()
     ensures { RightLaw }
-{
-}
+{}

@@ -44,7 +44,7 @@ fn part_at(alloc: Global, text: &str, start: usize) -> Result<Part<Known>, Alloc
 {
     let mut end = first_end(text.as_bytes(), start);
     let mut step = 0;
-    while end < text.len() {
+    'ends: while end < text.len() {
         match try_end(alloc, text, start, end, step)? {
             Attempt::Found(part) => return Ok(part),
             Attempt::Further(further) => end = further,

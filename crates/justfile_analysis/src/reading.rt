@@ -88,8 +88,8 @@ pub(crate) fn read_up_to(
     requires within { end < length text.now }
     ensures { IfOk result (λ found. IfSome found (IsFound text.now start)) }
 {
-    let read = &text[read_start(start)..=end];
-    match read_before(alloc, read, start > 0)? {
+    let from = read_start(start);
+    match read_before(alloc, &text[from..=end], &text[from..end], start > 0)? {
         None => Ok(None),
         Some(known) => Ok(Some(Part {
             size: end - start,
@@ -99,8 +99,14 @@ pub(crate) fn read_up_to(
     }
 }
 
-/// Reads what is before the last byte of a text, up to that byte.
-fn read_before(alloc: Global, text: &str, is_later: bool) -> Result<Option<Known>, AllocError>
+/// Reads what is before the last byte of a text, the front, up to that byte.
+fn read_before(
+    alloc: Global,
+    text: &str,
+    front: &str,
+    is_later: bool,
+) -> Result<Option<Known>, AllocError>
+    requires { length front.now ≡ length text.now - 1 }
     ensures { IfOk result (λ found. IfSome found (IsRead text.now)) }
 {
     let origin = Source {
@@ -120,27 +126,15 @@ fn read_before(alloc: Global, text: &str, is_later: bool) -> Result<Option<Known
     ) {
         None => Ok(None),
         Some(mut ast) => {
-            let known = known_of(&mut ast, alloc, &text[..text.len() - 1], is_later);
+            let known = known_of(&mut ast, alloc, front, is_later);
             release(ast);
-            some_if_ok(known)
+            Ok(Some(known?))
         }
     }
 }
 
-/// Returns what is known, if memory sufficed.
-fn some_if_ok(known: Result<Known, AllocError>) -> Result<Option<Known>, AllocError> {
-    match known {
-        Ok(known) => Ok(Some(known)),
-        Err(error) => Err(error),
-    }
-}
-
 /// Reads the part of a text from an offset on, up to the end of the text.
-pub(crate) fn read_rest(
-    alloc: Global,
-    text: &str,
-    start: usize,
-) -> Result<Part<Known>, AllocError>
+pub(crate) fn read_rest(alloc: Global, text: &str, start: usize) -> Result<Part<Known>, AllocError>
     requires { IsPartStart text.now start }
     ensures { IfOk result (IsFound text.now start) }
 {

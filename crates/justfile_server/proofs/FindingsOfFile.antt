@@ -19,7 +19,7 @@ use Rattle.justfile_lint.specs.Lint.{problems_of}
 use Rattle.justfile_lint.specs.Names.{may_be_imported}
 use Rattle.justfile_findings.specs.Findings.{AreFindings}
 use Rattle.editor_language.specs.declared.parts.Finding.{Finding}
-use Rattle.justfile_analysis.specs.Knowledge.{IsNone}
+use Rattle.justfile_analysis.specs.Parts.{IsNone}
 use Rattle.justfile_server.specs.Findings.{AreFindingsOf, AreInText, of_none, of_tree}
 
 pub of_file : {E : Type 0} (imported : Bool) (ast : Ast) (all : List Item) (features : List (ListFeature × Token)) (facts : Facts) (problems lent : List Problem) (ds : List Definition) (us : List Use)

@@ -3,7 +3,7 @@ use Rattle.std.proofs.Common.{◌≡◌, ◌∙◌, ℕ, ◌+◌, ◌-◌, ◌<�
 use Rattle.std.proofs.lemmas.List.{take_more}
 use Rattle.justfile_item.specs.declared.item.Item.{Item as TreeItem}
 use Rattle.justfile_mentions.specs.Mentions.{AreMentions, Noted, noted}
-use Rattle.justfile_analysis.specs.Knowledge.{IsNone}
+use Rattle.justfile_analysis.specs.Parts.{IsNone}
 use Rattle.editor_language.specs.declared.mention.Mention.{Mention}
 use Rattle.editor_language.specs.declared.parts.Item.{Item}
 use Rattle.justfile_server.specs.Links.{IsChunk}

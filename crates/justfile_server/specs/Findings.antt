@@ -10,7 +10,7 @@ use Rattle.justfile_facts.specs.Uses.{item_uses}
 use Rattle.justfile_lint.specs.Lint.{problems_of}
 use Rattle.justfile_lint.specs.Names.{may_be_imported}
 use Rattle.justfile_findings.specs.Findings.{AreFindings}
-use Rattle.justfile_analysis.specs.Knowledge.{IsNone}
+use Rattle.justfile_analysis.specs.Parts.{IsNone}
 use Rattle.editor_language.specs.declared.parts.Finding.{Finding}
 use Rattle.editor_language.specs.declared.parts.Problem.{Problem}
 

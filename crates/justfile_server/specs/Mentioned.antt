@@ -3,7 +3,7 @@ use Rattle.std.specs.Prelude.{◌≡◌, ◌+◌, ◌++◌, ◌-◌, ◌^◌, �
 use Rattle.justfile_ast.specs.declared.ast.Ast.{Ast}
 use Rattle.justfile_canonical.specs.Root.{IsRoot}
 use Rattle.justfile_mentions.specs.Mentions.{AreBoth, AreMentions, Noted, noted}
-use Rattle.justfile_analysis.specs.Knowledge.{IsNone}
+use Rattle.justfile_analysis.specs.Parts.{IsNone}
 use Rattle.editor_language.specs.declared.mention.Mention.{Mention}
 use Rattle.editor_language.specs.declared.parts.Analysis.{Analysis}
 use Rattle.editor_language.specs.declared.parts.Item.{Item}
