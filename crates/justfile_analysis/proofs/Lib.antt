@@ -1,2 +1,3 @@
 pub mod RightParts
 pub mod SeenParts
+pub mod Lists
