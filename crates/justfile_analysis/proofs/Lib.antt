@@ -1,3 +1,5 @@
 pub mod RightParts
 pub mod SeenParts
 pub mod Lists
+pub mod Starts
+pub mod WrongParts

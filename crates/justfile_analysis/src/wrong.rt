@@ -1,7 +1,7 @@
 //! A part of a justfile that is rejected.
-ghost use Rattle.std.specs.Prelude.{◌≡◌, ◌≤◌, ◌<◌, ◌-◌, IfOk, drop, length, nat_eq};
+ghost use Rattle.std.specs.Prelude.{◌+◌, ◌<◌, ◌≤◌, IfOk, length, min};
 ghost use Rattle.text_parts.specs.Places.{IsPartStart};
-ghost use Rattle.justfile_analysis.specs.Ends.{IsEnd};
+ghost use Rattle.justfile_analysis.specs.Ends.{IsEnd, IsStop};
 ghost use Rattle.justfile_analysis.specs.Parts.{AreBefore, IsFound, IsNone, read_of};
 
 use crate::reading::{KnownQuery, read_start};
@@ -64,18 +64,36 @@ fn line_of(text: &str, start: usize, at: usize) -> usize
 
 /// Returns where the next part begins after an error at an offset: not after an end.
 fn next_part(bytes: &[u8], at: usize, end: usize) -> usize
+    requires before { at ≤ end }
+    requires within { end ≤ length bytes.now }
+    requires stop { IsStop bytes.now end }
+    ensures after { min (at + 1) end ≤ result }
+    ensures within { result ≤ end }
+    ensures stop { IsStop bytes.now result }
 {
     next_start(bytes, at.saturating_add(1).min(bytes.len())).min(end)
 }
 
-/// Returns how many bytes from its beginning on were read of a part that is rejected up to an end. For
-/// the end of a literal all of the text is looked through.
-fn reach_of(text: &str, start: usize, end: usize, cause: Cause) -> usize {
-    let read = match cause {
+/// Returns how many bytes from its beginning on were read of a part that is rejected up to an end.
+fn reach_of(text: &str, start: usize, end: usize, cause: Cause) -> usize
+    requires forward { start ≤ end }
+    requires within { end ≤ length text.now }
+    ensures { end < start + result }
+{
+    read_end(text, end, cause) - start + 1
+}
+
+/// Returns up to where a text was read, of which a part is rejected up to an end. For the end of a
+/// literal all of the text is looked through.
+fn read_end(text: &str, end: usize, cause: Cause) -> usize
+    requires { end ≤ length text.now }
+    ensures forward { end ≤ result }
+    ensures within { result ≤ length text.now }
+{
+    match cause {
         Cause::OpenLiteral(_) => text.len(),
         _ => end,
-    };
-    read - start + 1
+    }
 }
 
 /// Returns what is known of the lines of a part before the line of its error, if they are a justfile by
