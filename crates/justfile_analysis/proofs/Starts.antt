@@ -1,14 +1,14 @@
 -- Where an item may begin.
-use Rattle.std.proofs.Common.{◌≡◌, ◌⊎◌, inl, inr, ℕ, ◌-◌, ◌<◌, ◌≤◌, true, false, List, length, arith, rules, tests}
-use Rattle.std.specs.Prelude.{slice_index, slice_index_or}
+use Rattle.std.proofs.Common.{◌≡◌, inl, inr, ℕ, ◌-◌, ◌<◌, ◌≤◌, true, false, List, length, arith}
+use Rattle.std.specs.Prelude.{slice_index}
 use Rattle.std.specs.Str.{IsCharBoundary}
 use Rattle.std.proofs.lemmas.Bool.Decides.{nat_tests}
 use Rattle.justfile_model.specs.Lexing.BlankLines.{is_blank_or_line_end}
-use Rattle.justfile_recovery.specs.Starts.{begins_item, begins_line, is_start}
+use Rattle.justfile_recovery.specs.Starts.{begins_item, is_start}
 use Rattle.text_parts.specs.Places.{IsLineStart}
 use Rattle.justfile_analysis.specs.Ends.{IsStop}
 
--- a byte with which an item may begin
+-- a byte with which an item may begin is ASCII, and no blank and no line end
 small : (byte : ℕ) → begins_item byte ≡ true → byte < 128
 small byte h = grind (arith, nat_tests, h)
 

@@ -1,5 +1,5 @@
 -- Parts that are rejected.
-use Rattle.std.proofs.Common.{◌≡◌, ◌⊎◌, inl, inr, ℕ, ◌+◌, ◌-◌, ◌<◌, ◌≤◌, true, List, [], length, take, drop, Some, ap, sym, subst, arith}
+use Rattle.std.proofs.Common.{◌≡◌, inl, inr, ℕ, ◌+◌, ◌-◌, ◌<◌, ◌≤◌, List, length, take, drop, Some, sym, subst, arith}
 use Rattle.std.specs.Prelude.{codes, min, nat_eq}
 use Rattle.std.proofs.lemmas.List.{take-take}
 use Rattle.text_parts.proofs.Fitting.{before_at}
@@ -17,12 +17,12 @@ use Rattle.justfile_analysis.proofs.Starts.{begins, begins_line_at}
 -- ---- what is read
 
 -- the beginning of what is read is a part of the text
-pub front : (text : List ℕ) (start to reach : ℕ) → to ≤ start + reach → take (to - (start - 1)) (seen (nat_eq start 0) reach (drop (start - 1) text)) ≡ read_of text start to
+front : (text : List ℕ) (start to reach : ℕ) → to ≤ start + reach → take (to - (start - 1)) (seen (nat_eq start 0) reach (drop (start - 1) text)) ≡ read_of text start to
 front text start to reach h =
     take-take (to - (start - 1)) (before (nat_eq start 0) + reach) (drop (start - 1) text) (omega (arith, before_at start, h))
 
 module _ (text : List ℕ) (start reach : ℕ) where
-  abbrev pub Seen : List ℕ
+  abbrev Seen : List ℕ
   Seen = seen (nat_eq start 0) reach (drop (start - 1) text)
 
   -- the items of the lines before another one, in what is read
@@ -33,7 +33,7 @@ module _ (text : List ℕ) (start reach : ℕ) where
       inr (line - (start - 1), are.0, subst (λ src. IsRoot (codes "justfile") src are.0) same are.1, subst (λ src. AreItems (length src) are.0 items) same are.2)
 
   -- what was read is wrong
-  pub wrong : (end line : ℕ) (known : Known) (problem : PartProblem) → known.problem ≡ Some problem → end ≤ start + reach → IsNone (read_of text start end)
+  wrong : (end line : ℕ) (known : Known) (problem : PartProblem) → known.problem ≡ Some problem → end ≤ start + reach → IsNone (read_of text start end)
       → line ≤ end → AreBefore text start line known.items.items → IsWrong Seen known
   wrong end line known problem is read none l items = record {
     problem = problem;
@@ -45,14 +45,14 @@ module _ (text : List ℕ) (start reach : ℕ) where
 
 -- ---- where a part ends
 
--- the next part begins where one may, after an error in this one or at its end
+-- The next part begins where one may: after an error in this one, or at its end.
 pub record IsAfter (text : List ℕ) (end at next : ℕ) : Type 0 where
   pub in_part : at ≤ end
   pub after : min (at + 1) end ≤ next
   pub within : next ≤ end
   pub stop : IsStop text next
 
-pub ends_at : (text : List ℕ) (start end at next size : ℕ) → IsEnd text start end → start ≤ at → IsAfter text end at next → start + size ≡ next → IsPartEnd text start size
+ends_at : (text : List ℕ) (start end at next size : ℕ) → IsEnd text start end → start ≤ at → IsAfter text end at next → start + size ≡ next → IsPartEnd text start size
 ends_at text start end at next size e from a is = by a.stop
   where
     by : IsStop text next → IsPartEnd text start size
@@ -64,6 +64,7 @@ ends_at text start end at next size e from a is = by a.stop
 
 -- ---- a part
 
+-- a part that is rejected up to an end is the next one
 pub found : (text : List ℕ) (start end at line next : ℕ) (p : Part Known) (problem : PartProblem) → IsEnd text start end → IsNone (read_of text start end) → start ≤ at
     → IsAfter text end at next → start + p.size ≡ next → p.known.problem ≡ Some problem → end < start + p.reach → line ≤ at → AreBefore text start line p.known.items.items → IsFound text start p
 found text start end at line next p problem e none from a size is read l items = record {

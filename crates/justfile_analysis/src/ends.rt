@@ -65,13 +65,7 @@ pub(crate) fn end_after(
 
 /// Returns the end after the literal that begins at an offset and isn't closed before an end, if it is
 /// closed. A literal that is no string and no backtick is closed like what else may end early.
-fn end_past_literal(
-    bytes: &[u8],
-    start: usize,
-    end: usize,
-    step: usize,
-    at: usize,
-) -> Option<usize>
+fn end_past_literal(bytes: &[u8], start: usize, end: usize, step: usize, at: usize) -> Option<usize>
     requires end { IsEnd bytes.now start end }
     requires within { end < length bytes.now }
     ensures { IfSome result (IsFurther bytes.now end) }
@@ -92,7 +86,11 @@ fn is_quote(byte: u8) -> bool {
 
 /// Returns how many quotes open the literal at an offset: three or one.
 fn quote_length(bytes: &[u8], at: usize, quote: u8) -> usize {
-    if are_quotes(bytes, at, quote, 3) { 3 } else { 1 }
+    if are_quotes(bytes, at, quote, 3) {
+        3
+    } else {
+        1
+    }
 }
 
 /// Whether there are this many quotes at an offset.

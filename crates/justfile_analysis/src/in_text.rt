@@ -92,7 +92,13 @@ fn problem_in_text(
 ) -> Result<Problem, AllocError> {
     let base = read_start(start);
     let message = if problem.names_lines {
-        message_after(alloc, text, base, start.saturating_add(reach.saturating_sub(1)), problem)?
+        message_after(
+            alloc,
+            text,
+            base,
+            start.saturating_add(reach.saturating_sub(1)),
+            problem,
+        )?
     } else {
         problem.message.clone()?
     };
