@@ -85,8 +85,8 @@ fn part_edits<L: Language>(
         start: asked.shown.offset(range.start),
         end: asked.shown.offset(range.end),
     };
-    let parts = language.formatted_items(alloc, asked.text, asked.analysis, span)?;
-    asked.shown.part_edits(alloc, &parts)
+    let replacements = language.formatted_items(alloc, asked.text, asked.analysis, span)?;
+    asked.shown.replacement_edits(alloc, &replacements)
 }
 
 /// Whether edits lead to a text that has this formatted text.

@@ -8,7 +8,9 @@ ghost use Rattle.editor_language.specs.Mentions.{is_like};
 ghost use Rattle.editor_answers.specs.Ranges.{beside, fold_of, highlight_of, last_line_of, position_of, range_of, shown, to_find, to_place, to_show, to_tell, told};
 
 use crate::addresses::address;
-use editor_language::{FileLink, Finding, Item, Mention, OtherPlace, Part, Problem, Span, is_like};
+use editor_language::{
+    FileLink, Finding, Item, Mention, OtherPlace, Problem, Replacement, Span, is_like,
+};
 use editor_messages::{Diagnostic, Fold, Highlight, Link, Related, Symbol};
 use justfile_lines::{Encoding, Lines, Place, Position};
 use std::alloc::{AllocError, Global};
@@ -291,23 +293,23 @@ impl<'a> Shown<'a> {
         Ok(Link { range, target })
     }
 
-    /// Returns the edits that put parts of a text in their places.
-    pub(crate) fn part_edits(
+    /// Returns the edits that replace parts of a text.
+    pub(crate) fn replacement_edits(
         &self,
         alloc: Global,
-        parts: &[Part],
+        replacements: &[Replacement],
     ) -> Result<Vec<TextEdit>, AllocError> {
         let mut edits = Vec::new(alloc);
-        for part in parts {
-            edits.push(self.part_edit(part)?)?;
+        for replacement in replacements {
+            edits.push(self.replacement_edit(replacement)?)?;
         }
         Ok(edits)
     }
 
-    /// Returns the edit that puts a part of a text in its place.
-    fn part_edit(&self, part: &Part) -> Result<TextEdit, AllocError> {
-        let text = part.text.clone()?;
-        let range = self.range(part.span);
+    /// Returns the edit that replaces a part of a text.
+    fn replacement_edit(&self, replacement: &Replacement) -> Result<TextEdit, AllocError> {
+        let text = replacement.text.clone()?;
+        let range = self.range(replacement.span);
         Ok(TextEdit { range, text })
     }
 }

@@ -75,13 +75,13 @@ pub struct Analysis {
 /// part from the line feed before it.
 #[derive(Drop)]
 pub struct Known {
-    /// The items in it.
+    /// The items, in their order.
     pub items: Vec<Item>,
-    /// What is wrong in it.
+    /// What is wrong, if something is.
     pub problem: Option<PartProblem>,
 }
 
-/// What is wrong in a part of a text.
+/// What is wrong in a part.
 #[derive(Drop)]
 pub struct PartProblem {
     /// Where it is.

@@ -1,5 +1,5 @@
 -- What is known of the documents after one was stored or forgotten.
-use Rattle.std.proofs.Common.{◌≡◌, ◌∙◌, ℕ, Bool, true, false, cond, List, map, Option, Some, None, Result, Ok, Err, IfOk, OnErr, OnOk, sym, ap, subst, string_bytes}
+use Rattle.std.proofs.Common.{◌≡◌, ◌∙◌, ℕ, Bool, true, false, cond, List, Option, Some, None, Result, Ok, Err, IfOk, OnErr, OnOk, sym, ap, subst, string_bytes}
 use Rattle.std.specs.Prelude.{IfSome}
 use Rattle.std.specs.BTreeMap.{IsEmpty, get_by_text, is_at}
 use Rattle.std.specs.Cmp.Lexicographic.{slice_cmp}
@@ -22,7 +22,23 @@ known_cond : (P : Document → Type 0) (here : Bool) (new old : Option Document)
 known_cond P true new old h k = h
 known_cond P false new old h k = k
 
+put_over : (here : Bool) (new between old : Option Document) → cond here new (cond here between old) ≡ cond here new old
+put_over true new between old = λ _. new
+put_over false new between old = λ _. old
+
+-- a document was taken out of the list before
+module _ (uri : List ℕ) (old between new : Documents) (taken : Closes uri old between) where
+  put_taken : (d : Document) → IsPut uri d between.list new.list → IsPut uri d old.list new.list
+  put_taken d h q = h q ∙ ap (cond (bytes_eq uri q) (Some d)) (taken.forgets q) ∙ put_over (bytes_eq uri q) (Some d) None (get_by_text old.list q)
+
+  pub stored_taken : (d : Document) → IsStored uri d between new → IsStored uri d old new
+  stored_taken d h = record { is_put = put_taken d h.is_put; lost = h.lost ∙ taken.lost }
+
 module _ (knows : List ℕ → Analysis → Type 0) where
+  -- the document that is at an address
+  pub known_at : (m : DocumentMap) (uri : List ℕ) (d : Document) → AreKnown knows m → Some d ≡ get_by_text m uri → IsKnown knows d
+  known_at m uri d k e = subst (λ o. IfSome o (IsKnown knows)) (sym e) (k uri)
+
   pub known_empty : (m : DocumentMap) → IsEmpty m → AreKnown knows m
   known_empty m e uri = subst (λ es. IfSome (lookup (is_at (λ k. slice_cmp nat_cmp uri (string_bytes k))) es) (IsKnown knows)) (sym e) tt
 

@@ -23,6 +23,11 @@ module _ (knows : List ℕ → Analysis → Type 0) (finds : List ℕ → List �
   unheld_at : (at : Option Document) (found : Option (Vec Diagnostic)) → None ≡ at → Restores knows finds encoding uri changes (is_restored old.has_lost changes) old new found → Changes knows finds encoding uri changes at old new found
   unheld_at at found e h = subst (λ o. Changes knows finds encoding uri changes o old new found) e h
 
-  pub unheld : {E : Type 0} (r : Result (Option (Vec Diagnostic)) E) (at : Option Document) → None ≡ at → IfOk r (Restores knows finds encoding uri changes (is_restored old.has_lost changes) old new) → IfOk r (Changes knows finds encoding uri changes at old new)
-  unheld (Ok found) at e h = unheld_at at found e h
-  unheld (Err x) at e h = tt
+  unheld_in : {E : Type 0} (r : Result (Option (Vec Diagnostic)) E) (at : Option Document) → None ≡ at → IfOk r (Restores knows finds encoding uri changes (is_restored old.has_lost changes) old new) → IfOk r (Changes knows finds encoding uri changes at old new)
+  unheld_in (Ok found) at e h = unheld_at at found e h
+  unheld_in (Err x) at e h = tt
+
+  -- no document was held, so that none was taken out of the list
+  pub unheld : {E : Type 0} (between : Documents) (r : Result (Option (Vec Diagnostic)) E) (at : Option Document) → None ≡ at → between ≡ old
+      → IfOk r (Restores knows finds encoding uri changes (is_restored between.has_lost changes) between new) → IfOk r (Changes knows finds encoding uri changes at old new)
+  unheld between r at e same h = unheld_in r at e (subst (λ (d : Documents). IfOk r (Restores knows finds encoding uri changes (is_restored d.has_lost changes) d new)) same h)

@@ -1,5 +1,5 @@
 //! The open documents.
-ghost use Rattle.std.specs.Prelude.{◌≡◌, ℕ, List, IfOk, OnErr, OnOk, false, string_bytes};
+ghost use Rattle.std.specs.Prelude.{◌≡◌, ℕ, List, IfNone, IfOk, OnErr, OnOk, false, string_bytes};
 ghost use Rattle.std.specs.Option.{option_copied};
 ghost use Rattle.std.specs.BTreeMap.{IsEmpty, IsUnchanged, get_by_text};
 ghost use Rattle.editor_messages.specs.Changes.{AreApplied};
@@ -135,7 +135,7 @@ impl Documents {
         ensures failed { OnErr result (Loses uri.now self.old self.new) }
         ensures known { AreKnown L.knows self.new.list }
     {
-        let Some(document) = self.get(uri) else {
+        let Some(document) = self.take(uri) else {
             return self.restore(alloc, language, encoding, uri, changes);
         };
         match changed_document(alloc, language, encoding, uri, document, changes) {
@@ -144,6 +144,19 @@ impl Documents {
                 self.lose(uri);
                 Err(AllocError)
             }
+        }
+    }
+
+    /// Takes the document with an address out of the list, if it is there.
+    fn take(&mut self, uri: &str) -> Option<Document>
+        ensures document { result ≡ get_by_text self.old.list uri.now }
+        ensures taken { Closes uri.now self.old self.new }
+        ensures unchanged { IfNone result (self.new ≡ self.old) }
+    {
+        if self.list.contains_key(uri) {
+            self.list.remove(uri)
+        } else {
+            None
         }
     }
 
@@ -249,19 +262,22 @@ fn changed_document<L: Language>(
     language: &L,
     encoding: Encoding,
     uri: &str,
-    document: &Document,
+    document: Document,
     changes: &[Change<'_>],
 ) -> Result<Told, AllocError>
-    requires { IsKnown L.knows document.now }
+    requires { IsKnown L.knows document }
     ensures applied { IfOk result (λ changed. AreApplied encoding
-        (string_bytes document.now.text) changes.now (string_bytes changed.document.text)) }
+        (string_bytes document.text) changes.now (string_bytes changed.document.text)) }
     ensures known { IfOk result (λ changed. IsKnown L.knows changed.document) }
     ensures tells { IfOk result (λ changed. TellsAll L.finds encoding uri.now
         (string_bytes changed.document.text) changed.document.analysis changed.found.items) }
 {
-    let old = document.text.as_str();
-    let text = changed_text(alloc, encoding, old, changes)?;
-    let analysis = language.analysis_after(alloc, old, &document.analysis, text.as_str())?;
+    let Document {
+        text: old,
+        analysis,
+    } = document;
+    let text = changed_text(alloc, encoding, old.as_str(), changes)?;
+    let analysis = language.analysis_after(alloc, old.as_str(), analysis, text.as_str())?;
     let found = found_in(alloc, language, encoding, uri, text.as_str(), &analysis)?;
     Ok(Told {
         document: Document { text, analysis },

@@ -1,3 +1,4 @@
+pub mod AsRead
 pub mod RightParts
 pub mod SeenParts
 pub mod Lists

@@ -12,7 +12,7 @@ use Rattle.text_parts.specs.Parts.{AreParts, IsPart, before}
 use Rattle.text_parts.specs.declared.part.Part.{Part}
 use Rattle.text_parts.specs.Parts as parts
 use Rattle.justfile_analysis.specs.RightParts.{AreRight, IsReadFurther, Read, end_of, last, more}
-use Rattle.justfile_analysis.specs.SeenParts.{AreAsRead, IsAsRead, IsSeen, IsSeenFurther, IsSeenToEnd}
+use Rattle.justfile_analysis.specs.SeenParts.{AreAsRead, IsAsRead, IsKnown, IsSeen, IsSeenFurther, IsSeenToEnd}
 
 -- ---- one part
 
@@ -77,7 +77,7 @@ module _ (conditions : Conditions) (is_first : Bool) (rest : List ℕ) (seen : �
 
 -- ---- the parts of a text
 
-module _ {K : Type 0} (conditions : Conditions) (is_part : IsPart K) (IsRight : Part K → Type 0) (About : Part K → Read → Type 0)
+module _ {K : Type 0} (conditions : Conditions) (is_part : IsPart K) (IsRight : Part K → Type 0) (About : IsKnown K)
     (as_read : (is_first : Bool) (seen : List ℕ) (sees_end : Bool) (p : Part K) → is_part is_first seen sees_end p → IsRight p
     → IsAsRead conditions About is_first seen sees_end p) where
   pub right_parts : {is_first : Bool} {rest : List ℕ} {ps : List (Part K)} → AreParts is_part is_first rest ps → All IsRight ps

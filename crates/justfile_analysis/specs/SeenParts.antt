@@ -1,6 +1,5 @@
 -- Parts of a text that are right by what was read to find them.
 use Rattle.std.specs.Prelude.{◌≡◌, ℕ, ◌-◌, Bool, true, false, List, [], ◌∷◌, ◌++◌, length, slice_index}
-use Rattle.std.specs.List.{AllZip}
 use Rattle.justfile_vocabulary.specs.ByteNames as byte
 use Rattle.justfile_model.specs.Grammars.Conditions.{Conditions}
 use Rattle.justfile_model.specs.Lexing.BlankLines.{is_blank_or_line_end}
@@ -29,15 +28,25 @@ abbrev pub IsSeen : Conditions → (is_first : Bool) (seen : List ℕ) (sees_end
 IsSeen conditions is_first seen true r = IsSeenToEnd conditions is_first seen r
 IsSeen conditions is_first seen false r = IsSeenFurther conditions is_first seen r
 
+-- what is known of a part, which may be the first one, and of what it was read as
+abbrev pub IsKnown : Type 0 → Type 1
+IsKnown K = (is_first : Bool) → Part K → Read → Type 0
+
 -- The part has this size, and is right, as what something is known about.
-pub record IsAsRead {K : Type 0} (conditions : Conditions) (About : Part K → Read → Type 0) (is_first : Bool) (seen : List ℕ) (sees_end : Bool) (p : Part K) : Type 0 where
+pub record IsAsRead {K : Type 0} (conditions : Conditions) (About : IsKnown K) (is_first : Bool) (seen : List ℕ) (sees_end : Bool) (p : Part K) : Type 0 where
   pub r : Read
   pub size_is : r.size ≡ p.size
   pub is_seen : IsSeen conditions is_first seen sees_end r
-  pub about : About p r
+  pub about : About is_first p r
+
+-- something is known about each part
+abbrev pub AreAbout : {K : Type 0} → IsKnown K → (is_first : Bool) → List (Part K) → List Read → Type 0
+AreAbout About is_first [] [] = Unit {0}
+AreAbout About is_first (p ∷ parts) (r ∷ rs) = About is_first p r × AreAbout About false parts rs
+AreAbout About is_first _ _ = ⊥
 
 -- The parts of what is left of a text are right, and each is what something is known about.
-pub record AreAsRead {K : Type 0} (conditions : Conditions) (About : Part K → Read → Type 0) (is_first : Bool) (rest : List ℕ) (parts : List (Part K)) : Type 0 where
+pub record AreAsRead {K : Type 0} (conditions : Conditions) (About : IsKnown K) (is_first : Bool) (rest : List ℕ) (parts : List (Part K)) : Type 0 where
   pub rs : List Read
   pub are_right : AreRight conditions is_first rest rs
-  pub about : AllZip About parts rs
+  pub about : AreAbout About is_first parts rs

@@ -17,7 +17,7 @@ use crate::mentions::mentions_of;
 use crate::modules::Folders;
 use crate::ranges::formatted_in;
 use editor_language::{
-    Analysis, Choices, Colored, FileLink, Finding, Language, Mention, Part, Span,
+    Analysis, Choices, Colored, FileLink, Finding, Language, Mention, Replacement, Span,
 };
 use justfile_analysis::{analysis_after, analysis_of};
 use justfile_canonical::fault::FormatFault;
@@ -59,7 +59,7 @@ impl<F: Folders> Language for Justfiles<'_, F> {
         &self,
         alloc: Global,
         old_text: &str,
-        old: &Analysis,
+        old: Analysis,
         text: &str,
     ) -> Result<Analysis, AllocError> {
         analysis_after(alloc, old_text, old, text)
@@ -92,7 +92,7 @@ impl<F: Folders> Language for Justfiles<'_, F> {
         text: &str,
         analysis: &Analysis,
         span: Span,
-    ) -> Result<Vec<Part>, AllocError> {
+    ) -> Result<Vec<Replacement>, AllocError> {
         formatted_in(alloc, text, analysis, span)
     }
 

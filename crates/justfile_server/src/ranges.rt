@@ -1,6 +1,6 @@
 //! Formatting of the items in a part of a text. The others may have errors.
 use crate::chunk::{chunk_start, chunk_text};
-use editor_language::{Analysis, Part, Span};
+use editor_language::{Analysis, Replacement, Span};
 use justfile_ast::Ast;
 use justfile_canonical::reading::{Query, query_root};
 use justfile_indentation::own_indentation;
@@ -52,15 +52,15 @@ pub(crate) fn formatted_in(
     text: &str,
     analysis: &Analysis,
     span: Span,
-) -> Result<Vec<Part>, AllocError> {
+) -> Result<Vec<Replacement>, AllocError> {
     let indentation = indentation_of(alloc, text)?;
-    let mut parts = Vec::new(alloc);
+    let mut replacements = Vec::new(alloc);
     for item in &analysis.items {
         if item.span.start < span.end && span.start < item.span.end {
-            push_part(alloc, &mut parts, text, item.span, indentation)?;
+            push_replacement(alloc, &mut replacements, text, item.span, indentation)?;
         }
     }
-    Ok(parts)
+    Ok(replacements)
 }
 
 /// Returns the indentation of a text, or four spaces if it has an error.
@@ -73,9 +73,9 @@ fn indentation_of(alloc: Global, text: &str) -> Result<Indentation, AllocError> 
 }
 
 /// Adds what takes the place of an item, if that differs from it.
-fn push_part(
+fn push_replacement(
     alloc: Global,
-    parts: &mut Vec<Part>,
+    replacements: &mut Vec<Replacement>,
     text: &str,
     span: Span,
     indentation: Indentation,
@@ -89,7 +89,7 @@ fn push_part(
     };
     if text.get(span.start..span.end) != Some(new) {
         let text = new.to_string(alloc)?;
-        parts.push(Part { span, text })?;
+        replacements.push(Replacement { span, text })?;
     }
     Ok(())
 }

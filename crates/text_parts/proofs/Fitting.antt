@@ -80,3 +80,14 @@ module _ {K : Type 0} (is_part : IsPart K) (text : List ℕ) where
 
   pub end_within : (done new : List (Part K)) (at end : ℕ) → IsFound is_part text at done new end → end ≤ length text
   end_within done new at end f = elim (f.ends) [ inl e ↦ omega (arith, e, f.end_is) | inr s ↦ omega (arith, s.1.within, f.end_is) ]
+
+-- A part that was found is one after other ones too.
+pub found_after : {K : Type 0} (is_part : IsPart K) (text : List ℕ) (kept old new : List (Part K)) (at end : ℕ) → IsFound is_part text at old new end
+    → IsFound is_part text at (kept ++ old) (kept ++ new) end
+found_after is_part text kept old new at end f = record {
+  part = f.part;
+  appended = ap (λ l. kept ++ l) f.appended ∙ sym (append_assoc kept old (f.part ∷ []));
+  next = f.next;
+  end_is = f.end_is;
+  ends = f.ends;
+}

@@ -152,15 +152,11 @@ more_passed {K} is_part old parts part place next within is index_is left_is o =
     }
 
 -- Where the parts begin that are left after the first ones.
-pub old_place : {K : Type 0} (is_part : IsPart K) (old : List ℕ) (parts : List (Part K)) (place : Place) → place.index ≡ 0
-    → place.left ≡ length old - place.at → AreLeft is_part old place.at parts → AreOld is_part old parts place
-old_place {K} is_part old parts place index_is left_is h = record {
-  within = omega (arith, left_is);
-  left = subst (λ n. AreLeft is_part old (length old - place.left) (drop n parts)) (sym index_is) (there parts h);
-}
+pub old_place : {K : Type 0} (is_part : IsPart K) (old : List ℕ) (parts : List (Part K)) (place : Place) → place.left ≡ length old - place.at
+    → AreLeft is_part old place.at (drop place.index parts) → AreOld is_part old parts place
+old_place {K} is_part old parts place left_is h = record { within = omega (arith, left_is); left = there (drop place.index parts) h }
   where
     there : (ps : List (Part K)) → AreLeft is_part old place.at ps → AreLeft is_part old (length old - place.left) ps
     there [] l = tt
     there (part ∷ ps) l =
-        subst (λ n. AreFrom is_part old n (part ∷ ps))
-        (omega (arith, end_within is_part old place.at part ps l, left_is)) l
+        subst (λ n. AreFrom is_part old n (part ∷ ps)) (omega (arith, end_within is_part old place.at part ps l, left_is)) l

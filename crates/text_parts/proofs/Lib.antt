@@ -1,3 +1,4 @@
 pub mod Fitting
 pub mod Keeping
 pub mod SharedEnds
+pub mod Splicing

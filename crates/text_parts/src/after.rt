@@ -4,6 +4,7 @@ ghost use Rattle.text_parts.specs.Kept.{AreLeft, AreOld, IsBegun, IsKeptTo};
 ghost use Rattle.text_parts.specs.Parts.{AreParts};
 ghost use Rattle.text_parts.specs.Places.{IsLineStart, IsPartStart};
 ghost use Rattle.text_parts.specs.Shared.{IsShared};
+ghost use Rattle.text_parts.specs.declared.part.Part.{Part as PartOf};
 
 use crate::cut::Cut;
 use crate::found::find_part;
@@ -28,18 +29,17 @@ pub fn parts_after<C: Cut>(
         → IfOk result (λ parts. AreParts C.is_part true text.now parts.items) }
 {
     let shared = Shared::between(old_text.as_bytes(), text.as_bytes());
-    let mut done = old;
-    let kept = kept_front::<C>(&done, text, shared);
-    let mut rest = done.split_off(kept.count)?;
+    let mut parts = old;
+    let kept = kept_front::<C>(&parts, text, shared);
     let place = Place {
         at: kept.end,
-        index: 0,
+        index: kept.count,
         left: old_text.len().saturating_sub(kept.end),
     };
-    let index = find_until(cut, alloc, text, &rest, shared, place, &mut done)?;
-    let mut last = rest.split_off(index)?;
-    done.append(&mut last)?;
-    Ok(done)
+    let mut found = Vec::new(alloc);
+    let index = find_until(cut, alloc, text, &parts, shared, place, &mut found)?;
+    parts.splice(kept.count..index, found)?;
+    Ok(parts)
 }
 
 /// The first parts of an old text, which are kept.
@@ -107,8 +107,8 @@ struct Place {
 }
 
 /// Finds parts of a text until one would begin where what is left of the text is left of the old one
-/// too, with the line feed before it, and a part of the old text begins. Returns the index of that
-/// one, or how many there are if there is none.
+/// too, with the line feed before it, and a part of the old text begins. Appends them to those that
+/// were found, and returns the index of that one, or how many there are if there is none.
 ///
 /// # Errors
 ///
@@ -120,15 +120,18 @@ fn find_until<C: Cut>(
     parts: &[Part<C::Known>],
     shared: Shared,
     mut place: Place,
-    done: &mut Vec<Part<C::Known>>,
+    found: &mut Vec<Part<C::Known>>,
 ) -> Result<usize, AllocError>
-    requires { IsPartStart text.now place.at }
+    requires start { IsPartStart text.now place.at }
+    requires index { place.index ≤ length parts.now }
+    ensures after { IfOk result (λ index. place.index ≤ index) }
     ensures within { IfOk result (λ index. index ≤ length parts.now) }
-    ensures whole { (old_text : List ℕ) → IsShared old_text text.now shared
-        → IsBegun C.is_part text.now done.old.items place.at
+    ensures whole { (old_text : List ℕ) (kept : List (PartOf C.Known))
+        → IsShared old_text text.now shared
+        → IsBegun C.is_part text.now (kept ++ found.old.items) place.at
         → AreOld C.is_part old_text parts.now place
-        → IfOk result (λ index.
-        AreParts C.is_part true text.now (done.new.items ++ drop index parts.now)) }
+        → IfOk result (λ index. AreParts C.is_part true text.now
+        (kept ++ found.new.items ++ drop index parts.now)) }
 {
     'parts: loop {
         let left = text.len() - place.at;
@@ -136,7 +139,7 @@ fn find_until<C: Cut>(
         if place.index < parts.len() && place.left == left && left < shared.end {
             return Ok(place.index);
         }
-        place.at = find_part(cut, alloc, text, place.at, done)?;
+        place.at = find_part(cut, alloc, text, place.at, found)?;
         if place.at == text.len() {
             return Ok(parts.len());
         }
@@ -145,7 +148,10 @@ fn find_until<C: Cut>(
 
 /// Passes the parts of the old text that begin where more than so many of its bytes are left.
 fn passed<C: Cut>(parts: &[Part<C::Known>], mut place: Place, left: usize) -> Place
+    requires { place.index ≤ length parts.now }
     ensures at { result.at ≡ place.at }
+    ensures after { place.index ≤ result.index }
+    ensures within { result.index ≤ length parts.now }
     ensures old { (old_text : List ℕ) → AreOld C.is_part old_text parts.now place
         → AreOld C.is_part old_text parts.now result }
 {

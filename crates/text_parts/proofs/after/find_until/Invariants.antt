@@ -1,4 +1,5 @@
-use Rattle.std.proofs.Common.{ℕ, ◌-◌, List, length}
+use Rattle.std.proofs.Common.{◌≤◌, ◌++◌, ℕ, ◌-◌, List, length}
+use Rattle.text_parts.specs.declared.part.Part.{Part}
 use Rattle.text_parts.specs.Kept.{AreOld, IsBegun}
 use Rattle.text_parts.specs.Places.{IsPartStart}
 use Rattle.text_parts.proofs.after.find_until.Given as goal
@@ -7,7 +8,10 @@ abbrev pub invariant-parts : goal.invariant-parts
 invariant-parts g l =
     record {
       start : IsPartStart l.text l.place.at;
-      begun : IsBegun g.C.Cut.is_part l.text l.initial.done.items l.initial.place.at → IsBegun g.C.Cut.is_part l.text l.done.items l.place.at;
+      after : l.initial.place.index ≤ l.place.index;
+      within : l.place.index ≤ length l.parts;
+      begun : (kept : List (Part g.row.C-Known.Denot)) → IsBegun g.C.Cut.is_part l.text (kept ++ l.initial.found.items) l.initial.place.at
+          → IsBegun g.C.Cut.is_part l.text (kept ++ l.found.items) l.place.at;
       old : (old : List ℕ) → AreOld g.C.Cut.is_part old l.parts l.initial.place → AreOld g.C.Cut.is_part old l.parts l.place;
     }
 

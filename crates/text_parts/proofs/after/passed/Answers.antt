@@ -1,4 +1,4 @@
-use Rattle.std.proofs.Common.{rules, ◌≡◌, ◌<◌, get_or, length, refl}
+use Rattle.std.proofs.Common.{rules, ◌≡◌, ◌<◌, get_or, length, refl, arith}
 use Rattle.text_parts.proofs.Keeping.{more_passed}
 use Rattle.text_parts.proofs.after.passed.Goals as goal
 
@@ -12,6 +12,8 @@ old-preserved g c =
     let is : part ≡ get_or parts now.index part = search rules in
     record {
       at = c.old.invariant.at;
+      after = omega (arith, c.old.invariant.after);
+      within = omega (arith, within);
       old = λ old h.
           more_passed g.C.Cut.is_part old parts part now _ within is refl c.saturating_sub.ensures (c.old.invariant.old old h);
     }
