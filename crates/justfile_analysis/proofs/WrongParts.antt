@@ -1,17 +1,19 @@
 -- Parts that are rejected.
-use Rattle.std.proofs.Common.{◌≡◌, inl, inr, ℕ, ◌+◌, ◌-◌, ◌<◌, ◌≤◌, List, length, take, drop, Some, sym, subst, arith}
+use Rattle.std.proofs.Common.{◌≡◌, inl, inr, ℕ, ◌+◌, ◌-◌, ◌<◌, ◌≤◌, List, length, take, drop, Some, ap, sym, subst, ◌∙◌, arith}
 use Rattle.std.specs.Prelude.{codes, min, nat_eq}
+use Rattle.std.specs.List.{slice_range}
 use Rattle.std.proofs.lemmas.List.{take-take}
 use Rattle.text_parts.proofs.Fitting.{before_at}
 use Rattle.text_parts.specs.Parts.{before, seen}
 use Rattle.text_parts.specs.Places.{IsLineStart, IsPartEnd}
 use Rattle.text_parts.specs.declared.part.Part.{Part}
+use Rattle.justfile_ast.specs.declared.ast.Ast.{Ast}
 use Rattle.justfile_canonical.specs.Root.{IsRoot}
 use Rattle.editor_language.specs.declared.parts.Item.{Item}
 use Rattle.editor_language.specs.declared.parts.Known.{Known}
 use Rattle.editor_language.specs.declared.parts.PartProblem.{PartProblem}
 use Rattle.justfile_analysis.specs.Ends.{IsEnd, IsStop}
-use Rattle.justfile_analysis.specs.Parts.{AreBefore, AreItems, AreOfFront, IsFound, IsNone, IsPartOf, IsWrong, read_of}
+use Rattle.justfile_analysis.specs.Parts.{AreBefore, AreItems, AreOfFront, IsFound, IsNone, IsPartOf, IsRight, IsWrong, read_of}
 use Rattle.justfile_analysis.proofs.Starts.{begins, begins_line_at}
 
 -- ---- what is read
@@ -42,6 +44,13 @@ module _ (text : List ℕ) (start reach : ℕ) where
     is_none = subst IsNone (sym (front text start end reach read)) none;
     items_of_front = of_front line known.items.items (omega (arith, read, l)) items;
   }
+
+-- what is known of the file of the lines before another one
+pub of_lines : (text read : List ℕ) (start from line : ℕ) (known : Known) (ast : Ast) → from ≡ start - 1 → read ≡ slice_range text from line → IsRoot (codes "justfile") read ast
+    → IsRight (length read) ast known → AreBefore text start line known.items.items
+of_lines text read start from line known ast from_is read_is root right =
+    let same : read ≡ read_of text start line = read_is ∙ ap (λ n. slice_range text n line) from_is in
+    inr (ast, subst (λ src. IsRoot (codes "justfile") src ast) same root, subst (λ src. AreItems (length src) ast known.items.items) same right.items_are)
 
 -- ---- where a part ends
 

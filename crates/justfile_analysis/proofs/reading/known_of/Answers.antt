@@ -8,8 +8,8 @@ pub returns : goal.returns
 returns c = record {
   none_wrong = refl;
   items_are =
-    c.in_ok-items_of.ensures
-    ∙ ap (map surveyed) c.deref.ensures.value
-    ∙ sym (map_twice to_show seen c.in_ok-found.found.items)
-    ∙ ap (map to_show) c.in_ok-found.ensures;
+      c.in_ok-items_of.ensures
+      ∙ ap (map surveyed) c.deref.ensures.value
+      ∙ sym (map_twice to_show seen c.in_ok-found.found.items)
+      ∙ ap (map to_show) c.in_ok-found.ensures;
 }
