@@ -1,5 +1,5 @@
 -- A part that was read is found.
-use Rattle.std.proofs.Common.{◌≡◌, ◌∙◌, ℕ, ◌+◌, ◌-◌, ◌<◌, ◌≤◌, true, false, List, length, take, drop, inl, inr, sym, ap, subst, arith, codes, Option, Some}
+use Rattle.std.proofs.Common.{◌≡◌, ◌∙◌, ℕ, ◌+◌, ◌-◌, ◌<◌, ◌≤◌, true, false, List, [], length, take, drop, inl, inr, sym, ap, subst, arith, codes, Option, Some}
 use Rattle.std.specs.Prelude.{IfSome, nat_eq, slice_index, slice_range}
 use Rattle.std.specs.Str.{IsCharBoundary, IsUtf8}
 use Rattle.std.proofs.lemmas.Str.{IsCharBoundary-after_ascii}
@@ -11,7 +11,8 @@ use Rattle.text_parts.specs.Places.{IsLineStart, IsPartEnd, IsPartStart}
 use Rattle.justfile_model.specs.Lexing.BlankLines.{is_blank_or_line_end}
 use Rattle.editor_language.specs.declared.parts.Known.{Known}
 use Rattle.justfile_ast.specs.declared.ast.Ast.{Ast}
-use Rattle.justfile_canonical.specs.Root.{IsRoot}
+use Rattle.justfile_canonical.specs.Root.{IsRoot, conditions}
+use Rattle.justfile_parts.specs.Parts.{IsPart}
 use Rattle.justfile_recovery.specs.Starts.{is_start}
 use Rattle.justfile_analysis.specs.Ends.{IsEnd, IsFurther, IsStop}
 use Rattle.justfile_analysis.specs.Parts as parts
@@ -121,3 +122,6 @@ cut_after text start end utf8 e within = IsCharBoundary-after_ascii text end utf
 -- an end that is further on is an end, too
 pub further : (text : List ℕ) (start end at : ℕ) → IsEnd text start end → IsFurther text end at → IsEnd text start at
 further text start end at e f = record { forward = omega (arith, e.forward, f.later); within = f.within; later = λ _. omega (arith, e.forward, f.later); stop = f.stop }
+
+pub read_by : (src : List ℕ) (size : ℕ) (ast : Ast) (known : Known) → size ≡ length src - 1 → IsPart conditions (codes "justfile") src 0 [] ast → IsRight size ast known → IsRead src known
+read_by src size ast known e p r = record { ast = ast; part = p; right = subst (λ n. IsRight n ast known) e r }
