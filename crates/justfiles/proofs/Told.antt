@@ -18,8 +18,9 @@ use Rattle.justfiles.specs.Justfile.{FindsShown, IsRejected}
 use Rattle.justfiles.specs.Linted.{TellFile, TellText}
 
 -- what was found is told
-pub file_told : {E : Type 0} (r : Result (String Global) E) (source : List ℕ) (imported : Bool) (ast : Ast) (found : Findings) (problems : List Problem) (circles : List Circle) → problems ≡ found.problems.items
-    → circles ≡ found.circles.items → AreFindingsOf imported ast found → IfOk r (λ s. TellAll source problems circles (string_bytes s)) → IfOk r (λ s. TellFile source imported ast (string_bytes s))
+pub file_told : {E : Type 0} (r : Result (String Global) E) (source : List ℕ) (imported : Bool) (ast : Ast) (found : Findings) (problems : List Problem) (circles : List Circle)
+    → problems ≡ found.problems.items → circles ≡ found.circles.items → AreFindingsOf imported ast found → IfOk r (λ s. TellAll source problems circles (string_bytes s))
+    → IfOk r (λ s. TellFile source imported ast (string_bytes s))
 file_told (Ok s) source imported ast found problems circles e f are told =
     let P : List Problem → Type 0 = λ l. TellAll source l circles (string_bytes s) in
     let Q : List Circle → Type 0 = λ l. TellAll source found.problems.items l (string_bytes s) in
