@@ -230,6 +230,9 @@ FINDINGS = [
     ("a ‹b›='é𝄞' «c»:\n", "RequiredParameterFollowsDefaultParameter", "non-default parameter `c` follows default parameter", "the parameter with a default"),
     ("[default]\n‹a›:\n[default]\n«b»:\n", "DuplicateDefault", "recipe `b` has duplicate `[default]` attribute, which may only appear once per module", "the first default recipe"),
     ("a:\n  echo é𝄞\n  «  echo»\n", "ExtraLeadingWhitespace", "recipe line has extra leading whitespace", ""),
+    ("a: ‹b›\nb: «a»\n", "CircularRecipeDependency", "recipe `b` has circular dependency `a -> b -> a`", "the next dependency"),
+    ("a: «a»\n", "CircularRecipeDependency", "recipe `a` depends on itself", ""),
+    ("«a» := b\n‹b› := a\n", "CircularVariableDependency", "variable `a` depends on its own value: `a -> b -> a`", "the next variable"),
 ]
 QUIET = [
     # justfiles in which nothing is wrong, as far as it is known, each with its name
@@ -640,6 +643,9 @@ def tell_findings(program, encoding):
     both = texts[0][0] + texts[1][0].replace("x", "z", 1)
     found = server.change(DOCUMENT, [{"text": both}])
     check(found == [wanted for _, wanted in texts], f"of two is told {found}")
+    found = server.change(DOCUMENT, [{"text": "a: b\nx := y\nb: a\nz := y\n"}])
+    codes = [told["code"] for told in found]
+    check(codes == ["UndefinedVariable", "CircularRecipeDependency", "UndefinedVariable"], f"of a circle among problems is told {codes}")
     for name in NAMES:
         found = server.open(f"file:///work/{name}", "x := y\n")
         check([told["code"] for told in found] == ["UndefinedVariable"], f"of {name} is told {found}")

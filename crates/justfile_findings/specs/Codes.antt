@@ -1,6 +1,10 @@
--- What kinds of problems are called, and which other place each is about.
-use Rattle.std.specs.Prelude.{ℕ, ◌+◌, List, Option, None, Some, codes}
+-- What kinds of problems and of circles are called, and which other place each is about.
+use Rattle.std.specs.Prelude.{ℕ, ◌+◌, List, Option, None, Some, codes, option_map, slice_get}
 use Rattle.justfile_token.specs.declared.token.Token.{Token}
+use Rattle.justfile_problems.specs.declared.circular.Circle.{Circle}
+use Rattle.justfile_problems.specs.declared.facts.Role.{Role}
+use Rattle.justfile_problems.specs.declared.facts.Role.TheVariants as roles
+use Rattle.justfile_problems.specs.declared.facts.Use.{Use}
 use Rattle.justfile_problems.specs.declared.problem.What.{What}
 use Rattle.justfile_problems.specs.declared.problem.What.TheVariants as whats
 use Rattle.editor_language.specs.declared.parts.OtherPlace.{OtherPlace}
@@ -53,3 +57,21 @@ other_of (whats.IncompatibleSettings own other first) = Some (span_of first.toke
 other_of (whats.Redefinition kind first_kind first) = Some (span_of first.token, codes "first defined here")
 other_of (whats.RequiredParameter first) = Some (span_of first.token, codes "the parameter with a default")
 other_of other = None
+
+-- the name of the kind of error that a circle is, by its first use
+abbrev pub circle_code : Role → List ℕ
+circle_code (roles.Dependency found) = codes "CircularRecipeDependency"
+circle_code other = codes "CircularVariableDependency"
+
+-- The error of a circle of recipes is at its last dependency, on which the first one follows. That of a circle of variables is at the first assignment, on which the second one follows.
+abbrev pub next_by : Role → (first second : Use) → Placed
+next_by (roles.Dependency found) first second = (span_of first.name.token, codes "the next dependency")
+next_by other first second = (span_of second.item.token, codes "the next variable")
+
+-- the place that follows in a circle with these first two uses on the one of its error
+abbrev pub next_in : (first second : Use) → Placed
+next_in first second = next_by first.role first second
+
+-- that place, if the circle has more uses than one
+abbrev pub next_of : Circle → Option Placed
+next_of c = option_map (next_in c.first) (slice_get c.others.items 0)

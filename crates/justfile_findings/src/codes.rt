@@ -1,9 +1,9 @@
-//! What kinds of problems are called, and which other place each is about.
+//! What kinds of problems and of circles are called, and which other place each is about.
 ghost use Rattle.std.specs.Prelude.{◌≡◌, option_map};
-ghost use Rattle.justfile_findings.specs.Codes.{code_of, other_of, placed, span_of};
+ghost use Rattle.justfile_findings.specs.Codes.{circle_code, code_of, next_in, next_of, other_of, placed, span_of};
 
 use editor_language::{OtherPlace, Span};
-use justfile_problems::What;
+use justfile_problems::{Circle, Role, Use, What};
 use justfile_token::{Name, Token};
 
 /// Returns the name of the kind of error.
@@ -71,5 +71,35 @@ pub(crate) fn other_of(what: &What<'_>) -> Option<OtherPlace>
         What::IncompatibleSettings { first, .. } => Some(place(first, "the other setting")),
         What::RequiredParameter { first } => Some(place(first, "the parameter with a default")),
         _ => None,
+    }
+}
+
+/// Returns the name of the kind of error that a circle is whose first use is this one.
+pub(crate) fn circle_code(role: Role) -> &'static str
+    ensures { result.now ≡ circle_code role }
+{
+    match role {
+        Role::Dependency(_) => "CircularRecipeDependency",
+        _ => "CircularVariableDependency",
+    }
+}
+
+/// Returns the place that follows in a circle on the one of its error. This is the second use.
+fn next_in(circle: &Circle<'_>, second: &Use<'_>) -> OtherPlace
+    ensures { placed result ≡ next_in circle.now.first second.now }
+{
+    match circle.first.role {
+        Role::Dependency(_) => place(&circle.first.name, "the next dependency"),
+        _ => place(&second.item, "the next variable"),
+    }
+}
+
+/// Returns the place that follows in a circle on the one of its error, if there is another one.
+pub(crate) fn next_of(circle: &Circle<'_>) -> Option<OtherPlace>
+    ensures { option_map placed result ≡ next_of circle.now }
+{
+    match circle.others.first() {
+        None => None,
+        Some(second) => Some(next_in(circle, second)),
     }
 }

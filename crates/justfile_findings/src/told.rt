@@ -1,14 +1,15 @@
-//! What is told of a problem.
+//! What is told of a problem or a circle.
 ghost use Rattle.std.specs.Prelude.{◌≡◌, ◌++◌, IfOk, Some, option_map, string_bytes};
 ghost use Rattle.std.specs.Option.{option_copied};
+ghost use Rattle.justfile_problems.specs.Circular.{IsErrorOfCircle};
 ghost use Rattle.justfile_problems.specs.Errors.{IsErrorOf};
 ghost use Rattle.justfile_token.specs.Messages.{message_text};
-ghost use Rattle.justfile_findings.specs.Findings.{Tells};
+ghost use Rattle.justfile_findings.specs.Findings.{Tells, TellsCircle};
 ghost use Rattle.justfile_findings.specs.Suggestions.{question};
 
-use crate::codes::{code_of, other_of, span_of};
+use crate::codes::{circle_code, code_of, next_of, other_of, span_of};
 use editor_language::Finding;
-use justfile_problems::Problem;
+use justfile_problems::{Circle, Problem};
 use justfile_token::CompileError;
 use std::alloc::{AllocError, Global};
 
@@ -71,4 +72,30 @@ pub(crate) fn told(
         code: code_of(&problem.what),
         other: other_of(&problem.what),
     })
+}
+
+/// Returns what is told of a circle that is this error.
+fn told_as(
+    alloc: Global,
+    circle: &Circle<'_>,
+    error: &CompileError<'_>,
+) -> Result<Finding, AllocError>
+    requires { IsErrorOfCircle circle.now error.now }
+    ensures { IfOk result (TellsCircle circle.now) }
+{
+    let message = plain_message(alloc, error)?;
+    Ok(Finding {
+        span: span_of(&error.token),
+        message,
+        code: circle_code(circle.first.role),
+        other: next_of(circle),
+    })
+}
+
+/// Returns what is told of a circle.
+pub(crate) fn circle_told(alloc: Global, circle: &Circle<'_>) -> Result<Finding, AllocError>
+    ensures { IfOk result (TellsCircle circle.now) }
+{
+    let error = circle.error(alloc)?;
+    told_as(alloc, circle, &error)
 }

@@ -8,6 +8,7 @@ use Rattle.justfile_problems.specs.Problems.{all_problems}
 use Rattle.justfile_problems.specs.declared.problem.Problem.{Problem}
 use Rattle.justfile_ast.specs.declared.ast.Ast.{Ast}
 use Rattle.justfile_facts.specs.Definitions.{item_definitions}
+use Rattle.justfile_facts.specs.Facts.{AreFactsOf}
 use Rattle.justfile_facts.specs.Rules.{rules_of}
 use Rattle.justfile_facts.specs.Suspects.{item_suspects, noted}
 use Rattle.justfile_facts.specs.Uses.{item_uses}
@@ -23,8 +24,9 @@ problems_of imported ast =
 abbrev pub AreCirclesIn : Ast → List Circle → Type 0
 AreCirclesIn ast = AreCirclesOf (flat_map item_definitions ast.items.items) (flat_map item_uses ast.items.items)
 
--- all problems, in the order of the text, and the circles
+-- what the file says of names, all problems, in the order of the text, and the circles
 pub record AreFindingsOf (imported : Bool) (ast : Ast) (found : Findings) : Type 0 where
+  pub facts : AreFactsOf imported ast.items.items ast.list_features.items found.facts
   pub all : IsPermutation (problems_of imported ast) found.problems.items
   pub in_order : IsNonDecreasingBy (λ p. p.token.offset) found.problems.items
   pub circles : AreCirclesIn ast found.circles.items

@@ -4,7 +4,7 @@ ghost use Rattle.std.specs.List.Sorted.{IsNonDecreasingBy};
 ghost use Rattle.justfile_lint.specs.Lint.{AreFindingsOf, problems_of};
 
 use justfile_ast::Ast;
-use justfile_facts::facts_of;
+use justfile_facts::{Facts, facts_of};
 use justfile_problems::{Circle, Problem, circles_of, problems};
 use std::alloc::{AllocError, Global};
 
@@ -38,6 +38,8 @@ pub fn lint<'src>(
 /// All that is wrong with a file.
 #[derive(Drop)]
 pub struct Findings<'src> {
+    /// What it says of names.
+    pub facts: Facts<'src>,
     /// Its problems, in the order of the text.
     pub problems: Vec<Problem<'src>>,
     /// Its recipes that depend on themselves, and its variables that are defined in terms of
@@ -45,7 +47,7 @@ pub struct Findings<'src> {
     pub circles: Vec<Circle<'src>>,
 }
 
-/// Returns the problems of a file, as `lint` does, and its circles.
+/// Returns the problems of a file, as `lint` does, its circles, and what it says of names.
 ///
 /// # Errors
 ///
@@ -66,5 +68,9 @@ pub fn lint_with_circles<'src>(
         &facts.suspects,
     )?;
     let circles = circles_of(alloc, &facts.definitions, &facts.uses)?;
-    Ok(Findings { problems, circles })
+    Ok(Findings {
+        facts,
+        problems,
+        circles,
+    })
 }

@@ -6,7 +6,7 @@ use Rattle.std.proofs.lemmas.List.{take_more}
 use Rattle.justfile_token.specs.declared.compile_error.CompileError.{CompileError}
 use Rattle.justfile_problem_lines.specs.Lines.{AddsLines, TellErrors, error_text}
 
-module _ {X : Type 0} (R : X → CompileError → Type 0) where
+module _ {X : Type 0} (source : List ℕ) (R : X → CompileError → Type 0) where
   each_push : (xs : List X) (es : List CompileError) (x : X) (e : CompileError) → AllZip R xs es → R x e → AllZip R (xs ++ x ∷ []) (es ++ e ∷ [])
   each_push [] [] x e h k = (k, tt)
   each_push [] (f ∷ es) x e h k = absurd h
@@ -14,18 +14,24 @@ module _ {X : Type 0} (R : X → CompileError → Type 0) where
   each_push (y ∷ xs) (f ∷ es) x e h k = (h.0, each_push xs es x e h.1 k)
 
   -- what was appended, if it was
-  pub adds : {A E : Type 0} (r : Result A E) (x : X) (error : CompileError) (old new : List ℕ) → R x error → OnOk r (new ≡ old ++ error_text error) → OnOk r (AddsLines R x old new)
+  pub adds : {A E : Type 0} (r : Result A E) (x : X) (error : CompileError) (old new : List ℕ) → R x error → OnOk r (new ≡ old ++ error_text source error) → OnOk r (AddsLines source R x old new)
   adds (Ok a) x error old new is h = record { error = error; is = is; added = h }
   adds (Err e) x error old new is h = tt
 
   -- one error more
-  pub one_told : (xs : List X) (i : ℕ) (x : X) (old new : List ℕ) → i < length xs → x ≡ get_or xs i x → TellErrors R (take i xs) old → AddsLines R x old new → TellErrors R (take (i + 1) xs) new
+  pub one_told : (xs : List X) (i : ℕ) (x : X) (old new : List ℕ) → i < length xs → x ≡ get_or xs i x → TellErrors source R (take i xs) old → AddsLines source R x old new
+      → TellErrors source R (take (i + 1) xs) new
   one_told xs i x old new inside at so_far more =
-      subst (λ l. TellErrors R l new) (sym (take_more xs i x inside ∙ ap (λ y. take i xs ++ y ∷ []) (sym at)))
+      subst (λ l. TellErrors source R l new) (sym (take_more xs i x inside ∙ ap (λ y. take i xs ++ y ∷ []) (sym at)))
       (record {
         errors = so_far.errors ++ more.error ∷ [];
         each = each_push (take i xs) so_far.errors x more.error so_far.each more.is;
         are =
-            more.added ∙ ap (λ l. l ++ error_text more.error) so_far.are
-            ∙ sym (flat_map-append error_text so_far.errors (more.error ∷ []) ∙ ap (λ l. flat_map error_text so_far.errors ++ l) (append-nil (error_text more.error)));
+            more.added ∙ ap (λ l. l ++ error_text source more.error) so_far.are
+            ∙ sym (flat_map-append (error_text source) so_far.errors (more.error ∷ [])
+            ∙ ap (λ l. flat_map (error_text source) so_far.errors ++ l) (append-nil (error_text source more.error)));
       })
+
+  -- of a text that is the source
+  pub adds_to : (text : List ℕ) (x : X) (old new : List ℕ) → text ≡ source → AddsLines text R x old new → AddsLines source R x old new
+  adds_to text x old new is h = subst (λ s. AddsLines s R x old new) is h

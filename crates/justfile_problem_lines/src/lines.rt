@@ -2,26 +2,30 @@
 ghost use Rattle.std.specs.Prelude.{◌≡◌, ◌++◌, IfOk, OnOk, string_bytes};
 ghost use Rattle.justfile_problems.specs.Circular.{IsErrorOfCircle};
 ghost use Rattle.justfile_problems.specs.Errors.{IsErrorOf};
-ghost use Rattle.justfile_problem_lines.specs.Lines.{AddsLines, TellAll, TellCircles, TellProblems, error_text};
+ghost use Rattle.justfile_problem_lines.specs.Lines.{AddsLines, TellAll, TellCircles, TellProblems, error_on, error_text};
 
+use crate::cursor::LineCursor;
 use justfile_problems::{Circle, Problem};
-use justfile_token::CompileError;
+use justfile_token::{CompileError, Excerpt};
 use std::alloc::{AllocError, Global};
 
-/// Returns the lines that tell problems, and then those that tell circles.
+/// Returns the lines that tell problems, and then those that tell circles. Their lines are those of
+/// `source`, the text of the file.
 ///
 /// # Errors
 ///
 /// `AllocError` if memory runs out.
 pub fn all_lines(
     alloc: Global,
+    source: &str,
     problems: &[Problem<'_>],
     circles: &[Circle<'_>],
 ) -> Result<String, AllocError>
-    ensures { IfOk result (λ lines. TellAll problems.now circles.now (string_bytes lines)) }
+    ensures { IfOk result (λ lines.
+        TellAll source.now problems.now circles.now (string_bytes lines)) }
 {
-    let mut lines = problem_lines(alloc, problems)?;
-    let others = circle_lines(alloc, circles)?;
+    let mut lines = problem_lines(alloc, source, problems)?;
+    let others = circle_lines(alloc, source, circles)?;
     append(&others, &mut lines)?;
     Ok(lines)
 }
@@ -34,29 +38,41 @@ fn append(text: &String, lines: &mut String) -> Result<(), AllocError>
     lines.push_str(text.as_str())
 }
 
-/// Returns the lines that tell problems, one after the other: of each `error: ` and `just`'s message,
-/// and the excerpt of the line that it is on.
+/// Returns the lines that tell problems of the file with the text `source`, one after the other: of
+/// each `error: ` and `just`'s message, and the excerpt of the line that it is on. It takes one pass
+/// over the text if the problems are in its order.
 ///
 /// # Errors
 ///
 /// `AllocError` if memory runs out.
-pub fn problem_lines(alloc: Global, problems: &[Problem<'_>]) -> Result<String, AllocError>
-    ensures { IfOk result (λ lines. TellProblems problems.now (string_bytes lines)) }
+pub fn problem_lines(
+    alloc: Global,
+    source: &str,
+    problems: &[Problem<'_>],
+) -> Result<String, AllocError>
+    ensures { IfOk result (λ lines. TellProblems source.now problems.now (string_bytes lines)) }
 {
+    let mut cursor = LineCursor::new(source);
     let mut lines = String::new(alloc);
     for problem in problems {
-        push_problem(alloc, problem, &mut lines)?;
+        push_problem(alloc, problem, &mut cursor, &mut lines)?;
     }
     Ok(lines)
 }
 
 /// Appends the lines that tell a problem.
-fn push_problem(alloc: Global, problem: &Problem<'_>, lines: &mut String) -> Result<(), AllocError>
-    ensures { OnOk result
-        (AddsLines IsErrorOf problem.now (string_bytes lines.old) (string_bytes lines.new)) }
+fn push_problem(
+    alloc: Global,
+    problem: &Problem<'_>,
+    cursor: &mut LineCursor<'_>,
+    lines: &mut String,
+) -> Result<(), AllocError>
+    ensures source { cursor.new.source.now ≡ cursor.old.source.now }
+    ensures adds { OnOk result (AddsLines cursor.old.source.now IsErrorOf problem.now
+        (string_bytes lines.old) (string_bytes lines.new)) }
 {
     let error = problem.error(alloc)?;
-    push_error(alloc, &error, lines)
+    push_error(alloc, &error, cursor, lines)
 }
 
 /// Returns the lines that tell circles, in the same way.
@@ -64,30 +80,63 @@ fn push_problem(alloc: Global, problem: &Problem<'_>, lines: &mut String) -> Res
 /// # Errors
 ///
 /// `AllocError` if memory runs out.
-pub fn circle_lines(alloc: Global, circles: &[Circle<'_>]) -> Result<String, AllocError>
-    ensures { IfOk result (λ lines. TellCircles circles.now (string_bytes lines)) }
+pub fn circle_lines(
+    alloc: Global,
+    source: &str,
+    circles: &[Circle<'_>],
+) -> Result<String, AllocError>
+    ensures { IfOk result (λ lines. TellCircles source.now circles.now (string_bytes lines)) }
 {
+    let mut cursor = LineCursor::new(source);
     let mut lines = String::new(alloc);
     for circle in circles {
-        push_circle(alloc, circle, &mut lines)?;
+        push_circle(alloc, circle, &mut cursor, &mut lines)?;
     }
     Ok(lines)
 }
 
 /// Appends the lines that tell a circle.
-fn push_circle(alloc: Global, circle: &Circle<'_>, lines: &mut String) -> Result<(), AllocError>
-    ensures { OnOk result
-        (AddsLines IsErrorOfCircle circle.now (string_bytes lines.old) (string_bytes lines.new)) }
+fn push_circle(
+    alloc: Global,
+    circle: &Circle<'_>,
+    cursor: &mut LineCursor<'_>,
+    lines: &mut String,
+) -> Result<(), AllocError>
+    ensures source { cursor.new.source.now ≡ cursor.old.source.now }
+    ensures adds { OnOk result (AddsLines cursor.old.source.now IsErrorOfCircle circle.now
+        (string_bytes lines.old) (string_bytes lines.new)) }
 {
     let error = circle.error(alloc)?;
-    push_error(alloc, &error, lines)
+    push_error(alloc, &error, cursor, lines)
 }
 
 /// Appends the lines that tell an error.
-fn push_error(alloc: Global, error: &CompileError<'_>, lines: &mut String) -> Result<(), AllocError>
-    ensures { OnOk result
-        (string_bytes lines.new ≡ string_bytes lines.old ++ error_text error.now) }
+fn push_error(
+    alloc: Global,
+    error: &CompileError<'_>,
+    cursor: &mut LineCursor<'_>,
+    lines: &mut String,
+) -> Result<(), AllocError>
+    ensures source { cursor.new.source.now ≡ cursor.old.source.now }
+    ensures adds { OnOk result (string_bytes lines.new
+        ≡ string_bytes lines.old ++ error_text cursor.old.source.now error.now) }
 {
-    let text = format!(in alloc; "error: {error}\n{}\n", error.token)?;
+    let line = cursor.line(error.token.line);
+    push_error_on(alloc, error, line, lines)
+}
+
+/// Appends the lines that tell an error on this line.
+fn push_error_on(
+    alloc: Global,
+    error: &CompileError<'_>,
+    line: &str,
+    lines: &mut String,
+) -> Result<(), AllocError>
+    ensures { OnOk result (string_bytes lines.new
+        ≡ string_bytes lines.old ++ error_on error.now line.now) }
+{
+    let token = error.token;
+    let excerpt = Excerpt { token, line };
+    let text = format!(in alloc; "error: {error}\n{excerpt}\n")?;
     lines.push_str(text.as_str())
 }

@@ -1,40 +1,38 @@
 -- What is told of a file.
-use Rattle.std.proofs.Common.{◌≡◌, ◌∙◌, ℕ, Bool, List, [], Result, Ok, Err, IfOk, IsPermutation, ap, codes, subst}
+use Rattle.std.proofs.Common.{◌≡◌, ◌∙◌, ℕ, Bool, List, [], Result, Ok, Err, IfOk, codes, subst}
 use Rattle.std.specs.Global.{Vec}
 use Rattle.std.specs.List.{flat_map}
-use Rattle.std.specs.List.Sorted.{IsNonDecreasingBy}
-use Rattle.justfile_vocabulary.specs.declared.list_feature.ListFeature.{ListFeature}
-use Rattle.justfile_token.specs.declared.token.Token.{Token}
-use Rattle.justfile_item.specs.declared.item.Item.{Item}
 use Rattle.justfile_ast.specs.declared.ast.Ast.{Ast}
+use Rattle.justfile_problems.specs.declared.circular.Circle.{Circle}
 use Rattle.justfile_problems.specs.declared.facts.Definition.{Definition}
 use Rattle.justfile_problems.specs.declared.facts.Use.{Use}
 use Rattle.justfile_problems.specs.declared.problem.Problem.{Problem}
-use Rattle.justfile_facts.specs.Definitions.{item_definitions}
-use Rattle.justfile_facts.specs.Facts.{AreFactsOf}
 use Rattle.justfile_facts.specs.Uses.{item_uses}
-use Rattle.justfile_facts.specs.declared.facts.Facts.{Facts}
 use Rattle.justfile_canonical.specs.Root.{IsRoot}
-use Rattle.justfile_lint.specs.Lint.{problems_of}
+use Rattle.justfile_lint.specs.Lint.{AreFindingsOf as AreLinted}
 use Rattle.justfile_lint.specs.Names.{may_be_imported}
+use Rattle.justfile_lint.specs.declared.file.Findings.{Findings}
 use Rattle.justfile_findings.specs.Findings.{AreFindings}
 use Rattle.editor_language.specs.declared.parts.Finding.{Finding}
 use Rattle.justfile_analysis.specs.Parts.{IsNone}
 use Rattle.justfile_server.specs.Findings.{AreFindingsOf, AreInText, of_none, of_tree}
 
-pub of_file : {E : Type 0} (imported : Bool) (ast : Ast) (all : List Item) (features : List (ListFeature × Token)) (facts : Facts) (problems lent : List Problem) (ds : List Definition) (us : List Use)
-    (r : Result (Vec Finding) E) → AreFactsOf imported all features facts → all ≡ ast.items.items → IsPermutation (problems_of imported ast) problems
-    → IsNonDecreasingBy (λ (p : Problem). p.token.offset) problems → lent ≡ problems → ds ≡ facts.definitions.items → us ≡ facts.uses.items
-    → IfOk r (λ found. AreFindings ds us lent found.items) → IfOk r (λ found. AreFindingsOf imported ast found.items)
-of_file imported ast all features facts problems lent ds us (Err e) are same permuted sorted lent_is ds_are us_are told = tt
-of_file imported ast all features facts problems lent ds us (Ok found) are same permuted sorted lent_is ds_are us_are told = record {
-  problems = problems;
-  all = permuted;
-  in_order = sorted;
+-- what is told of what was found
+pub of_file : {E : Type 0} (imported : Bool) (ast : Ast) (linted : Findings) (ps : List Problem) (cs : List Circle) (ds : List Definition) (us : List Use) (r : Result (Vec Finding) E)
+    → AreLinted imported ast linted → ps ≡ linted.problems.items → cs ≡ linted.circles.items → ds ≡ linted.facts.definitions.items → us ≡ linted.facts.uses.items
+    → IfOk r (λ found. AreFindings ds us ps cs found.items) → IfOk r (λ found. AreFindingsOf imported ast found.items)
+of_file imported ast linted ps cs ds us (Err e) are ps_are cs_are ds_are us_are told = tt
+of_file imported ast linted ps cs ds us (Ok found) are ps_are cs_are ds_are us_are told = record {
+  problems = linted.problems.items;
+  all = are.all;
+  in_order = are.in_order;
+  circles = linted.circles.items;
+  are = are.circles;
   told =
-      subst (λ (it : List Definition). AreFindings it (flat_map item_uses ast.items.items) problems found.items) (ds_are ∙ are.definitions ∙ ap (flat_map item_definitions) same)
-      (subst (λ (it : List Use). AreFindings ds it problems found.items) (us_are ∙ are.uses ∙ ap (flat_map item_uses) same)
-      (subst (λ (it : List Problem). AreFindings ds us it found.items) lent_is told));
+      subst (λ (it : List Definition). AreFindings it (flat_map item_uses ast.items.items) linted.problems.items linted.circles.items found.items) (ds_are ∙ are.facts.definitions)
+      (subst (λ (it : List Use). AreFindings ds it linted.problems.items linted.circles.items found.items) (us_are ∙ are.facts.uses)
+      (subst (λ (it : List Circle). AreFindings ds us linted.problems.items it found.items) cs_are
+      (subst (λ (it : List Problem). AreFindings ds us it cs found.items) ps_are told)));
 }
 
 -- what is told of a text with a tree, and of one without

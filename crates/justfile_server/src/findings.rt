@@ -5,9 +5,8 @@ ghost use Rattle.justfile_server.specs.Findings.{AreFindingsOf, AreFound, AreInS
 use editor_language::{Finding, Problem};
 use justfile_ast::Ast;
 use justfile_canonical::reading::{Query, query_root};
-use justfile_facts::facts_of;
 use justfile_findings::findings;
-use justfile_lint::{lint, may_be_imported};
+use justfile_lint::{lint_with_circles, may_be_imported};
 use justfile_token::Fault;
 use std::alloc::{AllocError, Global};
 
@@ -41,9 +40,15 @@ fn file_findings(
 ) -> Result<Vec<Finding>, AllocError>
     ensures { IfOk result (λ found. AreFindingsOf imported ast.old found.items) }
 {
-    let facts = facts_of(&ast.items, &ast.list_features, imported, alloc)?;
-    let problems = lint(ast, imported, alloc)?;
-    findings(alloc, &problems, &facts.definitions, &facts.uses)
+    let found = lint_with_circles(ast, imported, alloc)?;
+    let facts = &found.facts;
+    findings(
+        alloc,
+        &found.problems,
+        &found.circles,
+        &facts.definitions,
+        &facts.uses,
+    )
 }
 
 /// Returns what is wrong with what a text says in which these are wrong: if something is, nothing more

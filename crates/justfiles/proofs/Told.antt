@@ -18,16 +18,17 @@ use Rattle.justfiles.specs.Justfile.{FindsShown, IsRejected}
 use Rattle.justfiles.specs.Linted.{TellFile, TellText}
 
 -- what was found is told
-pub file_told : {E : Type 0} (r : Result (String Global) E) (imported : Bool) (ast : Ast) (found : Findings) (problems : List Problem) (circles : List Circle) → problems ≡ found.problems.items
-    → circles ≡ found.circles.items → AreFindingsOf imported ast found → IfOk r (λ s. TellAll problems circles (string_bytes s)) → IfOk r (λ s. TellFile imported ast (string_bytes s))
-file_told (Ok s) imported ast found problems circles e f are told =
-    let P : List Problem → Type 0 = λ l. TellAll l circles (string_bytes s) in
-    let Q : List Circle → Type 0 = λ l. TellAll found.problems.items l (string_bytes s) in
+pub file_told : {E : Type 0} (r : Result (String Global) E) (source : List ℕ) (imported : Bool) (ast : Ast) (found : Findings) (problems : List Problem) (circles : List Circle)
+    → problems ≡ found.problems.items → circles ≡ found.circles.items → AreFindingsOf imported ast found → IfOk r (λ s. TellAll source problems circles (string_bytes s))
+    → IfOk r (λ s. TellFile source imported ast (string_bytes s))
+file_told (Ok s) source imported ast found problems circles e f are told =
+    let P : List Problem → Type 0 = λ l. TellAll source l circles (string_bytes s) in
+    let Q : List Circle → Type 0 = λ l. TellAll source found.problems.items l (string_bytes s) in
     record { problems = found.problems.items; all = are.all; in_order = are.in_order; circles = found.circles.items; are = are.circles; told = subst Q f (subst P e told) }
-file_told (Err x) imported ast found problems circles e f are told = tt
+file_told (Err x) source imported ast found problems circles e f are told = tt
 
-pub text_told : (path source lines : List ℕ) (imported : Bool) (ast : Ast) → imported ≡ may_be_imported path → IsFileOf source ast → TellFile imported ast lines → TellText path source lines
-text_told path source lines imported ast is parsed told = record { ast = ast; parsed = parsed; told = subst (λ (b : Bool). TellFile b ast lines) is told }
+pub text_told : (path source lines : List ℕ) (imported : Bool) (ast : Ast) → imported ≡ may_be_imported path → IsFileOf source ast → TellFile source imported ast lines → TellText path source lines
+text_told path source lines imported ast is parsed told = record { ast = ast; parsed = parsed; told = subst (λ (b : Bool). TellFile source b ast lines) is told }
 
 -- what is told is shown
 pub shown_found : (name source told : List ℕ) (r : Result (String Global) Refusal) → TellText name source told → IfOk r (λ shown. string_bytes shown ≡ visible_lines told)

@@ -9,17 +9,17 @@ use Rattle.justfile_problem_lines.specs.Lines.{TellAll}
 use Rattle.justfile_lint.specs.Lint.{AreCirclesIn, problems_of}
 use Rattle.justfile_lint.specs.Names.{may_be_imported}
 
--- the lines tell all that is wrong with a file, in the order of the text, and then its circles
-pub record TellFile (imported : Bool) (ast : Ast) (lines : List ℕ) : Type 0 where
+-- the lines tell all that is wrong with the file of a text, in its order, and then its circles
+pub record TellFile (source : List ℕ) (imported : Bool) (ast : Ast) (lines : List ℕ) : Type 0 where
   pub problems : List Problem
   pub all : IsPermutation (problems_of imported ast) problems
   pub in_order : IsNonDecreasingBy (λ (p : Problem). p.token.offset) problems
   pub circles : List Circle
   pub are : AreCirclesIn ast circles
-  pub told : TellAll problems circles lines
+  pub told : TellAll source problems circles lines
 
 -- the text is a justfile, and the lines tell all that is wrong with it
 pub record TellText (path source lines : List ℕ) : Type 0 where
   pub ast : Ast
   pub parsed : IsFileOf source ast
-  pub told : TellFile (may_be_imported path) ast lines
+  pub told : TellFile source (may_be_imported path) ast lines

@@ -21,13 +21,19 @@ pub fn lint_text(alloc: Global, path: &str, source: &str) -> Result<String, Form
     ensures err { IfErr result (IsFormatFaultOf path.now source.now) }
 {
     let mut ast = parse(alloc, path, source)?;
-    Ok(file_lines(&mut ast, may_be_imported(path), alloc)?)
+    Ok(file_lines(&mut ast, source, may_be_imported(path), alloc)?)
 }
 
-/// Returns the lines that tell what is wrong with a file.
-fn file_lines(ast: &mut Ast<'_>, imported: bool, alloc: Global) -> Result<String, AllocError>
-    ensures { IfOk result (λ lines. TellFile imported ast.old (string_bytes lines)) }
+/// Returns the lines that tell what is wrong with the file of a text.
+fn file_lines(
+    ast: &mut Ast<'_>,
+    source: &str,
+    imported: bool,
+    alloc: Global,
+) -> Result<String, AllocError>
+    ensures { IfOk result
+        (λ lines. TellFile source.now imported ast.old (string_bytes lines)) }
 {
     let found = lint_with_circles(ast, imported, alloc)?;
-    all_lines(alloc, &found.problems, &found.circles)
+    all_lines(alloc, source, &found.problems, &found.circles)
 }

@@ -2,5 +2,5 @@ use Rattle.justfile_problems.specs.Circular.{IsErrorOfCircle}
 use Rattle.justfile_problem_lines.proofs.Told.{adds}
 use Rattle.justfile_problem_lines.proofs.lines.push_circle.Goals as goal
 
-pub returns : goal.returns
-returns c = adds IsErrorOfCircle c.push_error.result c.args.circle.now c.in_ok-error.error _ _ c.in_ok-error.ensures c.push_error.ensures
+pub returns-clause-adds : goal.returns-clause-adds
+returns-clause-adds c = adds c.args.cursor.now.source.now IsErrorOfCircle c.push_error.result c.args.circle.now c.in_ok-error.error _ _ c.in_ok-error.ensures c.push_error.ensures.adds
