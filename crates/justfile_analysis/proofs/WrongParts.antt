@@ -55,13 +55,13 @@ of_lines text read start from line known ast from_is read_is root right =
 -- ---- where a part ends
 
 -- The next part begins where one may: after an error in this one, or at its end.
-pub record IsAfter (text : List ℕ) (end at next : ℕ) : Type 0 where
+pub record IsAfter (text : List ℕ) (start end at next : ℕ) : Type 0 where
   pub in_part : at ≤ end
-  pub after : min (at + 1) end ≤ next
+  pub after : min (start + 1) end ≤ next
   pub within : next ≤ end
   pub stop : IsStop text next
 
-ends_at : (text : List ℕ) (start end at next size : ℕ) → IsEnd text start end → start ≤ at → IsAfter text end at next → start + size ≡ next → IsPartEnd text start size
+ends_at : (text : List ℕ) (start end at next size : ℕ) → IsEnd text start end → start ≤ at → IsAfter text start end at next → start + size ≡ next → IsPartEnd text start size
 ends_at text start end at next size e from a is = by a.stop
   where
     by : IsStop text next → IsPartEnd text start size
@@ -75,7 +75,7 @@ ends_at text start end at next size e from a is = by a.stop
 
 -- a part that is rejected up to an end is the next one
 pub found : (text : List ℕ) (start end at line next : ℕ) (p : Part Known) (problem : PartProblem) → IsEnd text start end → IsNone (read_of text start end) → start ≤ at
-    → IsAfter text end at next → start + p.size ≡ next → p.known.problem ≡ Some problem → end < start + p.reach → line ≤ at → AreBefore text start line p.known.items.items → IsFound text start p
+    → IsAfter text start end at next → start + p.size ≡ next → p.known.problem ≡ Some problem → end < start + p.reach → line ≤ at → AreBefore text start line p.known.items.items → IsFound text start p
 found text start end at line next p problem e none from a size is read l items = record {
   next = IsPartOf.wrong (wrong text start p.reach end line p.known problem is (omega (arith, read)) none (omega (arith, l, a.in_part)) items);
   ends = ends_at text start end at next p.size e from a size;

@@ -7,7 +7,7 @@ ghost use Rattle.justfile_analysis.specs.Parts.{IsAttempt, IsFound, IsNone, IsPa
 use crate::ends::{end_after, first_end, further_end};
 use crate::reading::{read_rest, read_up_to};
 use crate::rejection::{Rejection, rejection_of};
-use crate::wrong::wrong_part;
+use crate::wrong::refused_part;
 use editor_language::Known;
 use std::alloc::{AllocError, Global};
 use text_parts::{Cut, Part};
@@ -51,7 +51,7 @@ fn part_at(alloc: Global, text: &str, start: usize) -> Result<Part<Known>, Alloc
         }
         step = next_step(step);
     }
-    read_rest(alloc, text, start)
+    read_rest(alloc, text, start, step)
 }
 
 /// Returns the number after another one, or the same if there is none.
@@ -98,6 +98,9 @@ fn go_on(
 {
     match end_after(text.as_bytes(), start, end, step, rejection.cause) {
         Some(further) => Ok(Attempt::Further(further)),
-        None => Ok(Attempt::Found(wrong_part(alloc, text, start, end, rejection)?)),
+        None => {
+            let part = refused_part(alloc, text, start, end, step, rejection)?;
+            Ok(Attempt::Found(part))
+        }
     }
 }

@@ -8,7 +8,10 @@ use crate::rejection::Cause;
 use justfile_recovery::{next_start, part_end};
 
 /// How many ends are tried one after the other. Then each is twice as far as the one before.
-const STEPS: usize = 8;
+pub(crate) const STEPS: usize = 8;
+
+/// In how many bytes lines of attributes and comments are taken with what follows them.
+const JOINED: usize = 512;
 
 /// Returns the first end of the part that begins at an offset.
 pub(crate) fn first_end(bytes: &[u8], start: usize) -> usize
@@ -16,7 +19,7 @@ pub(crate) fn first_end(bytes: &[u8], start: usize) -> usize
     ensures { IsEnd bytes.now start result }
 {
     if start < bytes.len() {
-        part_end(bytes, start)
+        part_end(bytes, start, JOINED)
     } else {
         bytes.len()
     }
@@ -29,7 +32,7 @@ pub(crate) fn further_end(bytes: &[u8], start: usize, end: usize, step: usize) -
     ensures { IsFurther bytes.now end result }
 {
     if step < STEPS {
-        return part_end(bytes, end);
+        return part_end(bytes, end, JOINED);
     }
     let far = end.saturating_add(end - start);
     if far < bytes.len() {
@@ -54,7 +57,7 @@ pub(crate) fn end_after(
     match cause {
         Cause::Error => None,
         Cause::EarlyEnd => Some(further_end(bytes, start, end, step)),
-        Cause::OpenInterpolation if step < STEPS => Some(part_end(bytes, end)),
+        Cause::OpenInterpolation if step < STEPS => Some(part_end(bytes, end, JOINED)),
         Cause::OpenInterpolation => None,
         Cause::OpenLiteral(at) => {
             let at = read_start(start).saturating_add(at);

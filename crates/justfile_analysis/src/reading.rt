@@ -8,7 +8,7 @@ ghost use Rattle.justfile_analysis.specs.Parts.{IsFound, IsRead, IsRight};
 
 use crate::items::items_of;
 use crate::rejection::rejection_for;
-use crate::wrong::wrong_part;
+use crate::wrong::refused_part;
 use editor_language::Known;
 use justfile_ast::Ast;
 use justfile_canonical::reading::{Query, query_root, release};
@@ -133,8 +133,13 @@ fn read_before(
     }
 }
 
-/// Reads the part of a text from an offset on, up to the end of the text.
-pub(crate) fn read_rest(alloc: Global, text: &str, start: usize) -> Result<Part<Known>, AllocError>
+/// Reads the part of a text from an offset on, up to the end of the text, after so many ends before it.
+pub(crate) fn read_rest(
+    alloc: Global,
+    text: &str,
+    start: usize,
+    step: usize,
+) -> Result<Part<Known>, AllocError>
     requires { IsPartStart text.now start }
     ensures { IfOk result (IsFound text.now start) }
 {
@@ -151,7 +156,7 @@ pub(crate) fn read_rest(alloc: Global, text: &str, start: usize) -> Result<Part<
         }),
         Err(fault) => {
             let rejection = rejection_for(alloc, rest, fault)?;
-            wrong_part(alloc, text, start, text.len(), rejection)
+            refused_part(alloc, text, start, text.len(), step, rejection)
         }
     }
 }

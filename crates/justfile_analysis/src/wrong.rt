@@ -1,11 +1,12 @@
 //! A part of a justfile that is rejected.
-ghost use Rattle.std.specs.Prelude.{◌+◌, ◌<◌, ◌≤◌, IfOk, length, min};
+ghost use Rattle.std.specs.Prelude.{◌+◌, ◌<◌, ◌≤◌, IfOk, IfSome, length, min};
 ghost use Rattle.text_parts.specs.Places.{IsPartStart};
 ghost use Rattle.justfile_analysis.specs.Ends.{IsEnd, IsStop};
 ghost use Rattle.justfile_analysis.specs.Parts.{AreBefore, IsFound, IsNone, read_of};
 
+use crate::ends::{STEPS, first_end};
 use crate::reading::{KnownQuery, read_start};
-use crate::rejection::{Cause, Rejection};
+use crate::rejection::{Cause, Rejection, rejection_of};
 use editor_language::{Item, Known};
 use justfile_canonical::reading::query_root;
 use justfile_recovery::{line_start, next_start};
@@ -15,7 +16,7 @@ use text_parts::Part;
 
 /// Returns the part of a text that begins at an offset and is rejected up to an end. What is in the
 /// lines before its error is known. It ends where an item may begin after the error.
-pub(crate) fn wrong_part(
+fn wrong_part(
     alloc: Global,
     text: &str,
     start: usize,
@@ -29,7 +30,7 @@ pub(crate) fn wrong_part(
 {
     let at = error_place(start, end, &rejection);
     let items = items_before(alloc, text, start, line_of(text, start, at))?;
-    let next = next_part(text.as_bytes(), at, end);
+    let next = next_part(text.as_bytes(), start, at, end);
     Ok(Part {
         size: next - start,
         reach: reach_of(text, start, end, rejection.cause),
@@ -38,6 +39,51 @@ pub(crate) fn wrong_part(
             problem: Some(rejection.problem),
         },
     })
+}
+
+/// Returns the part of a text that begins at an offset and is rejected up to an end, after so many ends
+/// before it. If the literal in which it ended first isn't closed, it is rejected for that, so that what
+/// follows is read by itself.
+pub(crate) fn refused_part(
+    alloc: Global,
+    text: &str,
+    start: usize,
+    end: usize,
+    step: usize,
+    rejection: Rejection,
+) -> Result<Part<Known>, AllocError>
+    requires start { IsPartStart text.now start }
+    requires end { IsEnd text.now start end }
+    requires rejected { IsNone (read_of text.now start end) }
+    ensures { IfOk result (IsFound text.now start) }
+{
+    let first = first_end(text.as_bytes(), start);
+    match open_literal(alloc, text, start, first, step)? {
+        Some(literal) => wrong_part(alloc, text, start, first, literal),
+        None => wrong_part(alloc, text, start, end, rejection),
+    }
+}
+
+/// Returns why a part is rejected up to its first end, if that is a literal that isn't closed, and few
+/// other ends were tried.
+fn open_literal(
+    alloc: Global,
+    text: &str,
+    start: usize,
+    first: usize,
+    step: usize,
+) -> Result<Option<Rejection>, AllocError>
+    requires start { IsPartStart text.now start }
+    requires end { IsEnd text.now start first }
+    ensures { IfOk result (λ found. IfSome found (λ _. IsNone (read_of text.now start first))) }
+{
+    if step == 0 || STEPS < step {
+        return Ok(None);
+    }
+    match rejection_of(alloc, text, start, first)? {
+        Some(rejection) if matches!(rejection.cause, Cause::OpenLiteral(_)) => Ok(Some(rejection)),
+        _ => Ok(None),
+    }
 }
 
 /// Returns the offset of an error of a part.
@@ -62,16 +108,17 @@ fn line_of(text: &str, start: usize, at: usize) -> usize
     line_start(text.as_bytes(), at).max(start)
 }
 
-/// Returns where the next part begins after an error at an offset: not after an end.
-fn next_part(bytes: &[u8], at: usize, end: usize) -> usize
-    requires before { at ≤ end }
+/// Returns where the part after the one at a start begins, for an error at an offset: at the error or
+/// after it, and not after an end.
+fn next_part(bytes: &[u8], start: usize, at: usize, end: usize) -> usize
     requires within { end ≤ length bytes.now }
     requires stop { IsStop bytes.now end }
-    ensures after { min (at + 1) end ≤ result }
+    ensures after { min (start + 1) end ≤ result }
     ensures within { result ≤ end }
     ensures stop { IsStop bytes.now result }
 {
-    next_start(bytes, at.saturating_add(1).min(bytes.len())).min(end)
+    let from = at.max(start.saturating_add(1)).min(bytes.len());
+    next_start(bytes, from).min(end)
 }
 
 /// Returns how many bytes from its beginning on were read of a part that is rejected up to an end.

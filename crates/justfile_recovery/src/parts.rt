@@ -6,8 +6,9 @@ use crate::lines::is_comment_before;
 use crate::starts::next_start;
 
 /// Returns the end of the part of a text that begins at an offset: where the next item may begin. A
-/// line of attributes belongs to what follows it, and so does a comment right before an item.
-pub fn part_end(bytes: &[u8], from: usize) -> usize
+/// line of attributes belongs to what follows it, and so does a comment right before an item, in the
+/// first bytes of the part: at most this many.
+pub fn part_end(bytes: &[u8], from: usize, most: usize) -> usize
     requires { from < length bytes.now }
     ensures forward { from < result }
     ensures within { result ≤ length bytes.now }
@@ -15,7 +16,7 @@ pub fn part_end(bytes: &[u8], from: usize) -> usize
 {
     let mut line = from;
     let mut end = next_start(bytes, from + 1);
-    while end < bytes.len() && joins(bytes, line, end) {
+    while end < bytes.len() && end - from < most && joins(bytes, line, end) {
         line = end;
         end = next_start(bytes, end + 1);
     }

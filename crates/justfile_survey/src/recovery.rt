@@ -122,7 +122,7 @@ fn take(
         text: source.text,
         feeds: count_feeds(source.text, start, &mut found.course),
     };
-    let end = part_end(source.text.as_bytes(), start);
+    let end = part_end(source.text.as_bytes(), start, usize::MAX);
     let part = Span { start, end };
     if let Some(at) = take_cause(part, &mut found.course) {
         return leave(here, alloc, part, at, found);
