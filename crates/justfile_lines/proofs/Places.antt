@@ -1,13 +1,12 @@
 -- Places that follow a known place in its line.
-use Rattle.std.proofs.Common.{◌≡◌, ℕ, ◌+◌, ◌*◌, ◌-◌, ◌<◌, ◌≤◌, List, [], ◌∷◌, length, take, drop, get_or, refl, sym, ap, ◌∙◌, arith, inl, inr}
-use Rattle.std.specs.List.{sum_by}
+use Rattle.std.proofs.Common.{◌≡◌, ℕ, ◌+◌, ◌*◌, ◌-◌, ◌≤◌, List, [], ◌∷◌, length, take, drop, get_or, refl, ap, arith, inl, inr}
 use Rattle.std.specs.Str.{IsCharBoundary}
 use Rattle.std.proofs.lemmas.Bool.{cases_lt, le-ltb, lt-ltb}
 use Rattle.std.proofs.lemmas.List.{length-take-le, take-take}
-use Rattle.std.proofs.lemmas.List.Sums.{sum_by-cons, sum_by-take-drop, sum_by-take-le}
+use Rattle.std.proofs.lemmas.List.Sums.{sum_by-cons, sum_by-take-drop}
 use Rattle.justfile_lines.specs.declared.encoding.Encoding.{Encoding}
 use Rattle.justfile_lines.specs.declared.encoding.Encoding.TheVariants.{Utf8, Utf16}
-use Rattle.justfile_lines.specs.Positions.{IsLastUpTo, byte_units, column_at, feeds, line_at, utf16_units, width}
+use Rattle.justfile_lines.specs.Positions.{IsLastUpTo, byte_units, column_at, line_at, utf16_units, width}
 use Rattle.justfile_lines.specs.Starts.{AreStarts, IsStart}
 use Rattle.justfile_lines.proofs.Columns.{column_from, line_at-le, lines_grow}
 use Rattle.justfile_lines.proofs.Searches.{start_first}

@@ -1,12 +1,11 @@
 -- Units along a line.
-use Rattle.std.proofs.Common.{◌≡◌, ℕ, ◌+◌, ◌*◌, ◌-◌, ◌<◌, ◌≤◌, List, length, take, get_or, cond, refl, sym, ap, subst, ◌∙◌, arith, inl, inr}
-use Rattle.std.specs.List.{sum_by}
+use Rattle.std.proofs.Common.{◌≡◌, ℕ, ◌+◌, ◌<◌, ◌≤◌, List, length, take, get_or, refl, sym, subst, arith, inl, inr}
 use Rattle.std.specs.Str.{IsCharBoundary}
-use Rattle.std.proofs.lemmas.Bool.{cases_lt, cond-true, cond-false, le-ltb, lt-ltb}
+use Rattle.std.proofs.lemmas.Bool.{cases_lt, le-ltb, lt-ltb}
 use Rattle.std.proofs.lemmas.List.Sums.{sum_by_more}
 use Rattle.justfile_lines.specs.declared.encoding.Encoding.{Encoding}
 use Rattle.justfile_lines.specs.declared.encoding.Encoding.TheVariants.{Utf8, Utf16}
-use Rattle.justfile_lines.specs.Positions.{IsLastUpTo, IsOffset, byte_units, column_at, feeds, line_at, utf16_units, width}
+use Rattle.justfile_lines.specs.Positions.{IsLastUpTo, IsOffset, byte_units, column_at, line_at, width}
 use Rattle.justfile_lines.specs.Starts.{IsStart}
 use Rattle.justfile_lines.proofs.Columns.{column_from, line_at-le, sum_grows}
 use Rattle.justfile_lines.proofs.Searches.{start_first}

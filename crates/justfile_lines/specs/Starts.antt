@@ -1,5 +1,5 @@
 -- Where the lines of a text begin.
-use Rattle.std.specs.Prelude.{◌≡◌, ℕ, ◌+◌, ◌-◌, ◌<◌, ◌≤◌, List, length, slice_index}
+use Rattle.std.specs.Prelude.{◌≡◌, ℕ, ◌+◌, ◌-◌, ◌<◌, List, length, slice_index}
 use Rattle.std.specs.Str.{IsCharBoundary}
 use Rattle.justfile_lines.specs.Positions.{feeds, line_at}
 

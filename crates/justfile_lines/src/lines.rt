@@ -7,6 +7,7 @@ ghost use Rattle.justfile_lines.specs.Starts.{AreStarts, IsStart};
 use crate::encoding::Encoding;
 use crate::position::{Place, Position};
 use crate::walk::{last_up_to, width};
+use memchr::memchr;
 use std::alloc::{AllocError, Global};
 
 /// A text, and where its lines begin.
@@ -190,10 +191,10 @@ fn starts_of(alloc: Global, text: &[u8]) -> Result<Vec<usize>, AllocError>
 {
     let mut starts = Vec::new(alloc);
     starts.push(0)?;
-    for (at, byte) in text.iter().enumerate() {
-        if *byte == b'\n' {
-            starts.push(at + 1)?;
-        }
+    let mut at = 0;
+    while let Some(before) = memchr(b'\n', &text[at..]) {
+        at += before + 1;
+        starts.push(at)?;
     }
     Ok(starts)
 }

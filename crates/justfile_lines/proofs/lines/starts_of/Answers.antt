@@ -1,22 +1,22 @@
-use Rattle.std.proofs.Common.{◌≡◌, ◌+◌, ◌<◌, ◌∷◌, ◌++◌, [], length, refl, arith}
-use Rattle.justfile_lines.proofs.Searches.{count_more, count_same, each_more, each_same}
+use Rattle.std.proofs.Common.{◌≡◌, ◌+◌, ◌∷◌, ◌++◌, [], arith}
+use Rattle.justfile_lines.proofs.Searches.{all_found, before_end, count_more, each_more}
 use Rattle.justfile_lines.proofs.lines.starts_of.Goals as goal
-use Rattle.justfile_lines.proofs.lines.starts_of.Goals.{then-byte-eq10+in_ok-push-2, else-byte-eq10}
 
-pub loop-at-preserved : goal.loop-at-preserved
-loop-at-preserved c =
-    let lt : c.loop-at.at < length c.args.text.now = omega (arith, c.loop-at-test.true) in
-    elim c.if-byte-eq10.branch [
-      | then-byte-eq10+in_ok-push-2 w ↦
-          let is : c.if-byte-eq10.starts.items ≡ c.loop-at.starts.items ++ (c.loop-at.at + 1) ∷ [] = rw w.starts-is w.in_ok-push-2.ensures.items in
-          record {
-            count = count_more c.args.text.now _ _ c.loop-at.at c.requires lt c.loop-at.invariant.count c.loop-at.invariant.each is w.if-byte-eq10.true;
-            each = each_more c.args.text.now _ _ c.loop-at.at c.requires lt c.loop-at.invariant.count c.loop-at.invariant.each is w.if-byte-eq10.true;
-          }
-      | else-byte-eq10 w ↦
-          let is : c.if-byte-eq10.starts.items ≡ c.loop-at.starts.items = rw w.starts-is refl in
-          record {
-            count = count_same c.args.text.now _ _ c.loop-at.at lt c.loop-at.invariant.count is w.if-byte-eq10.false;
-            each = each_same c.args.text.now _ _ is c.loop-at.invariant.each;
-          }
-    ]
+pub loop-before-preserved : goal.loop-before-preserved
+loop-before-preserved c =
+    let found = c.in-Some.ensures in
+    let i = c.loop-before.invariant in
+    let text = c.args.text.now in
+    let starts = c.loop-before.starts.items in
+    let next = c.push-in-Some.new.self.items in
+    let is : next ≡ starts ++ (c.loop-before.at + (c.in-Some.before + 1)) ∷ [] = c.in_ok-push-2.ensures.items in
+    record {
+      within = omega (arith, before_end text starts c.loop-before.at i.within i.count i.each c.in-Some.before c.requires found.0 found.1 next is);
+      count = count_more text starts c.loop-before.at i.within i.count i.each c.in-Some.before c.requires found.0 found.1 next is;
+      each = each_more text starts c.loop-before.at i.within i.count i.each c.in-Some.before c.requires found.0 found.1 next is;
+    }
+
+pub returns : goal.returns
+returns c =
+    let i = c.loop-before.invariant in
+    all_found c.args.text.now c.loop-before.starts.items c.loop-before.at i.within i.count i.each c.in_default.ensures

@@ -1,4 +1,4 @@
-use Rattle.std.proofs.Common.{◌≡◌, ℕ, ◌+◌, ◌-◌, ◌*◌, ◌≤◌, length, take}
+use Rattle.std.proofs.Common.{◌≡◌, ℕ, ◌+◌, ◌-◌, ◌*◌, ◌≤◌, take}
 use Rattle.std.specs.Str.{IsCharBoundary}
 use Rattle.justfile_lines.specs.Positions.{width}
 use Rattle.justfile_lines.proofs.walk.last_up_to.Given as goal

@@ -1,5 +1,5 @@
-use Rattle.std.proofs.Common.{◌≡◌, ◌+◌, ◌∙◌, List, ℕ, drop, length, take, ap, arith}
-use Rattle.justfile_lines.specs.Positions.{column_at, line_at, width}
+use Rattle.std.proofs.Common.{◌≡◌, ◌+◌, ◌∙◌, ℕ, drop, take, ap, arith}
+use Rattle.justfile_lines.specs.Positions.{column_at, width}
 use Rattle.justfile_lines.proofs.Places.{column_bound, column_more}
 use Rattle.justfile_lines.proofs.lines.Lines.column_after.Goals as goal
 

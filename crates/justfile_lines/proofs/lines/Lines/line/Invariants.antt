@@ -1,4 +1,4 @@
-use Rattle.std.proofs.Common.{ℕ, ◌-◌, ◌<◌, ◌≤◌, length, get_or}
+use Rattle.std.proofs.Common.{◌-◌, ◌<◌, ◌≤◌, length, get_or}
 use Rattle.justfile_lines.proofs.lines.Lines.line.Given as goal
 
 abbrev pub invariant-halves : goal.invariant-halves

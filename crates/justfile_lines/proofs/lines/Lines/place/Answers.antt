@@ -1,4 +1,4 @@
-use Rattle.std.proofs.Common.{◌≡◌, ℕ, get_or, ◌∙◌, sym, refl, arith}
+use Rattle.std.proofs.Common.{◌≡◌, get_or, ◌∙◌, sym, arith}
 use Rattle.justfile_lines.specs.Positions.{line_at}
 use Rattle.justfile_lines.proofs.Columns.{line_at-le}
 use Rattle.justfile_lines.proofs.Walks.{position_back}

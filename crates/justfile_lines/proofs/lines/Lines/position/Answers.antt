@@ -1,4 +1,4 @@
-use Rattle.std.proofs.Common.{◌≡◌, List, ℕ, drop, take, ap, sym, subst, ◌∙◌, arith}
+use Rattle.std.proofs.Common.{drop, take, ap, sym, ◌∙◌, arith}
 use Rattle.justfile_lines.specs.Positions.{width}
 use Rattle.justfile_lines.proofs.Columns.{column_drop, line_at-le}
 use Rattle.justfile_lines.proofs.Searches.{start_first}
