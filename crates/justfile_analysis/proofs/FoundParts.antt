@@ -14,7 +14,7 @@ use Rattle.justfile_ast.specs.declared.ast.Ast.{Ast}
 use Rattle.justfile_canonical.specs.Root.{IsRoot, conditions}
 use Rattle.justfile_parts.specs.Parts.{IsPart}
 use Rattle.justfile_recovery.specs.Starts.{is_start}
-use Rattle.justfile_analysis.specs.Ends.{IsEnd, IsFurther, IsStop}
+use Rattle.justfile_analysis.specs.Ends.{IsEnd, IsStop}
 use Rattle.justfile_analysis.specs.Parts as parts
 use Rattle.justfile_analysis.specs.Parts.{IsFile, IsFound, IsRead, IsRight}
 use Rattle.justfile_analysis.proofs.Starts.{Begins, begins, begins_line_at}
@@ -118,10 +118,6 @@ read_is text read start end from found known e f g h =
 -- the text can be cut after the first byte of an item
 pub cut_after : (text : List ℕ) (start end : ℕ) → IsUtf8 text → IsEnd text start end → end < length text → IsCharBoundary text (end + 1)
 cut_after text start end utf8 e within = IsCharBoundary-after_ascii text end utf8 within (start_byte text start end e within).small
-
--- an end that is further on is an end, too
-pub further : (text : List ℕ) (start end at : ℕ) → IsEnd text start end → IsFurther text end at → IsEnd text start at
-further text start end at e f = record { forward = omega (arith, e.forward, f.later); within = f.within; later = λ _. omega (arith, e.forward, f.later); stop = f.stop }
 
 pub read_by : (src : List ℕ) (size : ℕ) (ast : Ast) (known : Known) → size ≡ length src - 1 → IsPart conditions (codes "justfile") src 0 [] ast → IsRight size ast known → IsRead src known
 read_by src size ast known e p r = record { ast = ast; part = p; right = subst (λ n. IsRight n ast known) e r }

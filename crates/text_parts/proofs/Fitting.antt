@@ -44,9 +44,6 @@ module _ {K : Type 0} (is_part : IsPart K) (text : List ℕ) where
   abbrev pub Fits : List (Part K) → ℕ → Type 0
   Fits done at = (parts : List (Part K)) → AreFrom is_part text at parts → AreFrom is_part text 0 (done ++ parts)
 
-  pub begun_first : IsBegun is_part text [] 0
-  begun_first = record { start = inl refl; fits = λ parts h. h }
-
   pub fits_more : (done : List (Part K)) (at : ℕ) (part : Part K) → Fits done at → IsAt at part → 0 < part.size → at + part.size < length text
       → Fits (done ++ (part ∷ [])) (at + part.size)
   fits_more done at part f n some within parts h =
@@ -74,12 +71,6 @@ module _ {K : Type 0} (is_part : IsPart K) (text : List ℕ) where
     | inl e ↦ absurd (h (f.end_is ∙ e))
     | inr s ↦ subst (IsPartStart text) (sym f.end_is) (inr s.1)
   ]
-
-  pub end_above : (done new : List (Part K)) (at end : ℕ) → IsFound is_part text at done new end → end ≢ length text → at < end
-  end_above done new at end f h = elim (f.ends) [ inl e ↦ absurd (h (f.end_is ∙ e)) | inr s ↦ omega (arith, s.0, f.end_is) ]
-
-  pub end_within : (done new : List (Part K)) (at end : ℕ) → IsFound is_part text at done new end → end ≤ length text
-  end_within done new at end f = elim (f.ends) [ inl e ↦ omega (arith, e, f.end_is) | inr s ↦ omega (arith, s.1.within, f.end_is) ]
 
 -- A part that was found is one after other ones too.
 pub found_after : {K : Type 0} (is_part : IsPart K) (text : List ℕ) (kept old new : List (Part K)) (at end : ℕ) → IsFound is_part text at old new end
