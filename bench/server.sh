@@ -2,8 +2,8 @@
 # Tries the built program justfile_server: server.sh [PROGRAM [EDITS]]
 #
 # Edits a justfile at random and compares what the server says with what a new one says of the whole text, sends what
-# is no message (server.py), renames at random (renames.py), and then drives Neovim without a screen (server.lua) and
-# Emacs with eglot (server.el), where they are. Prints a row for each part. Ends with 1 if one ended otherwise than it
+# is no message (server.py), breaks texts and types into long ones (parts.py), renames at random (renames.py), and then
+# drives Neovim without a screen (server.lua) and Emacs with eglot (server.el), where they are. Prints a row for each part. Ends with 1 if one ended otherwise than it
 # should.
 set -u
 top=$(cd "$(dirname "$0")/.." && pwd)
@@ -20,6 +20,7 @@ for words in '--help:A server' '-h:A server' '--version:justfile_server, commit 
     esac
 done
 python3 "$top/bench/server.py" "$program" "${2:-1000}" || status=1
+python3 "$top/bench/parts.py" "$program" || status=1
 python3 "$top/bench/renames.py" "$program" || status=1
 printf 'e:="é𝄞\nbuild: clean\n  echo {{e}}\nclean:\n  rm -rf out\n' > "$work/justfile"
 if command -v nvim > /dev/null; then
