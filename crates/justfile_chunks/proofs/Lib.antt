@@ -1,13 +1,10 @@
 pub mod AllCuts
-pub mod AloneTexts
 pub mod AskedNext
 pub mod ChunkTokens
 pub mod ChunkTrees
 pub mod CutModes
 pub mod FeedTexts
-pub mod JoinedChunks
 pub mod JoinedNext
-pub mod JoinedParts
 pub mod JoinedTokens
 pub mod ManyParts
 pub mod MovedChunks
@@ -17,9 +14,7 @@ pub mod ParsedChunks
 pub mod PartLexes
 pub mod PartNext
 pub mod PartSteps
-pub mod PartTexts
 pub mod ReadTexts
-pub mod ReplacedChunks
 pub mod SameModes
 pub mod SameNext
 pub mod SplitRuns

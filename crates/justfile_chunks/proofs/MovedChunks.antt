@@ -157,7 +157,7 @@ module _ (text before rest : List ℕ) (t : Tok) (part : List Tok) (feed : EndsI
       h.0.line_is ∙ ap (λ n. line_of_offset text n) (h.0.offset_is ∙ omega arith) ∙ ap (λ x. line_of_offset x (length before + 0)) is
       ∙ ap (count_by is_line_feed) ((inside before (text_of (t ∷ part)) rest 0 some).is ∙ append-nil before)
 
-  pub by_first : Moves before (10 ∷ []) (t.offset - 1) (t.line - 1)
+  by_first : Moves before (10 ∷ []) (t.offset - 1) (t.line - 1)
   by_first =
       let moves = fed_moves before feed in
       subst (λ n. Moves before (10 ∷ []) n (t.line - 1)) (ap (λ n. n - 1) (sym h.0.offset_is))

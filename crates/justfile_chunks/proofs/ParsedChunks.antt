@@ -1,8 +1,7 @@
--- A text that has parsed chunks derives their trees, joined; and a joined text has the parsed chunks of both.
-use Rattle.std.proofs.Common.{◌≡◌, ◌≢◌, ◌∙◌, ℕ, zero, suc, List, [], ◌∷◌, ◌++◌, map, refl, sym, ap, subst, arith}
+-- A text that has parsed chunks derives their trees, joined.
+use Rattle.std.proofs.Common.{◌≡◌, ◌∙◌, ℕ, zero, suc, List, [], ◌∷◌, ◌++◌, map, refl, sym, ap, subst, arith}
 use Rattle.std.specs.List.{AllByRecursion, flat_map}
 use Rattle.std.specs.Str.{IsAscii, IsUtf8}
-use Rattle.std.proofs.lemmas.List.{map-append}
 use Rattle.std.proofs.lemmas.Str.{IsUtf8-append, IsUtf8-from_ascii}
 use Rattle.justfile_model.specs.Grammars.Conditions.{Conditions}
 use Rattle.justfile_model.specs.Grammars.Features.{Noted}
@@ -11,17 +10,14 @@ use Rattle.justfile_model.specs.Lexing.Lexed.{Lexed}
 use Rattle.justfile_model.specs.Lexing.SignificantTokens.{significant_tokens}
 use Rattle.justfile_model.specs.Lexing.Tok.{Tok}
 use Rattle.justfile_model.specs.Trees.Tree.{Tree}
-use Rattle.justfile_model.proofs.Lists.AllParts.{all_mapped, both, parts}
+use Rattle.justfile_model.proofs.Lists.AllParts.{all_mapped}
 use Rattle.justfile_round_trip.specs.RoundTrip.{TextDerives}
-use Rattle.justfile_chunks_grammar.specs.Chunks.{AreParts, Chunk, Each, HasTree, chunks_of, joined, later_chunk, text_of}
+use Rattle.justfile_chunks_grammar.specs.Chunks.{AreParts, Chunk, Each, HasTree, Parts, chunks_of, joined, later_chunk, text_of}
 use Rattle.justfile_chunks_grammar.proofs.CutUp.{cut_up}
-use Rattle.justfile_chunks.specs.JoinedTexts.{HasChunks, HasParsed, JoinedTreeLaw, ParsedChunk, ParsedLaw, features_in_text, items_in_text, joined_chunk, joined_parsed, joined_text}
-use Rattle.justfile_chunks.proofs.ChunkTokens.{from_start}
+use Rattle.justfile_chunks.specs.Parts.{HasParsed, ParsedChunk, ParsedLaw, features_in_text, items_in_text}
+use Rattle.justfile_chunks.proofs.ChunkTokens.{Later, first_part, from_start, next_part, onto}
 use Rattle.justfile_chunks.proofs.ChunkTrees.{trees_derive}
-use Rattle.justfile_chunks.proofs.JoinedChunks.{join_law}
-use Rattle.justfile_chunks.proofs.JoinedParts.{parts_utf8}
-
--- ---- one text
+use Rattle.justfile_chunks.proofs.PartSteps.{fed_utf8}
 
 -- chunks that have trees, as parsed chunks
 record AsParsed (conditions : Conditions) (chunks : List Chunk) (trees : List Tree) (noted : List (List (Noted Tok))) : Type 0 where
@@ -30,6 +26,14 @@ record AsParsed (conditions : Conditions) (chunks : List Chunk) (trees : List Tr
   derive : AllByRecursion (λ (p : ParsedChunk). TextDerives conditions p.chunk.text p.tree p.features) parsed
   trees_are : trees ≡ map items_in_text parsed
   noted_are : flat_map (λ fs. fs) noted ≡ flat_map features_in_text parsed
+
+parts_utf8 : (parts : List (List Tok)) (e later : List Tok) → Later e later → Parts e later parts → AllByRecursion (λ part. IsUtf8 (text_of part)) parts
+parts_utf8 [] e later h p = tt
+parts_utf8 (part ∷ []) e later h p = (subst (λ x. IsUtf8 (text_of x)) (first_part p) h.utf8, tt)
+parts_utf8 (part ∷ q ∷ parts) e later h p =
+    let s = first_part p in
+    let n = next_part e later part (q ∷ parts) h s in
+    (fed_utf8 (text_of part) (text_of s.rest) n.feeds n.is_part.utf8, parts_utf8 (q ∷ parts) (onto e part) s.rest n.later s.others)
 
 feed_ascii : IsAscii (10 ∷ [])
 feed_ascii zero = omega arith
@@ -125,58 +129,3 @@ module _ (conditions : Conditions) where
 
 pub parsed_law : ParsedLaw
 parsed_law conditions text tree features = (to_parsed conditions text tree features, from_parsed conditions text tree features)
-
--- ---- joined texts
-
-abbrev pub chunks_in : List ParsedChunk → List Chunk
-chunks_in parsed = map (λ (p : ParsedChunk). p.chunk) parsed
-
-pub some_chunk : (parsed : List ParsedChunk) → parsed ≢ [] → chunks_in parsed ≢ []
-some_chunk [] h = λ e. h refl
-some_chunk (p ∷ parsed) h = λ e. cc
-
-abbrev IsParsed : Conditions → ParsedChunk → Type 0
-IsParsed conditions p = TextDerives conditions p.chunk.text p.tree p.features
-
--- each chunk derives its tree
-abbrev pub AllParsed : Conditions → List ParsedChunk → Type 0
-AllParsed conditions parsed = AllByRecursion (IsParsed conditions) parsed
-
-pub split_chunks : (before after : List ParsedChunk) → chunks_in (before ++ after) ≡ chunks_in before ++ chunks_in after
-split_chunks before after = map-append (λ (p : ParsedChunk). p.chunk) before after
-
-pub first_parsed : (conditions : Conditions) (text : List ℕ) (before after : List ParsedChunk) → HasParsed conditions text (before ++ after)
-    → AllParsed conditions before
-first_parsed conditions text before after h = (parts (IsParsed conditions) before after h.derive).0
-
-pub later_parsed : (conditions : Conditions) (text : List ℕ) (before after : List ParsedChunk) → HasParsed conditions text (before ++ after)
-    → AllParsed conditions after
-later_parsed conditions text before after h = (parts (IsParsed conditions) before after h.derive).1
-
--- each chunk has what it derives
-pub derived : (conditions : Conditions) (parsed : List ParsedChunk) → AllParsed conditions parsed
-    → AllByRecursion (λ (c : Chunk). (tree : Tree) × (features : List (Noted Tok)) × TextDerives conditions c.text tree features) (chunks_in parsed)
-derived conditions parsed h = all_mapped _ (λ (p : ParsedChunk). p.chunk) (λ p d. (p.tree, p.features, d)) parsed h
-
-module _ (at from : Chunk) where
-  chunks_moved : (xs : List ParsedChunk) → map (joined_chunk at from) (chunks_in xs) ≡ chunks_in (map (joined_parsed at from) xs)
-  chunks_moved [] = refl
-  chunks_moved (x ∷ xs) = ap (λ l. joined_chunk at from x.chunk ∷ l) (chunks_moved xs)
-
-  -- a text that has the chunks of two others has what is parsed of both
-  pub both_parsed : (conditions : Conditions) (text : List ℕ) (before after : List ParsedChunk)
-      → HasChunks text (chunks_in before ++ map (joined_chunk at from) (chunks_in after)) → AllParsed conditions before → AllParsed conditions after
-      → HasParsed conditions text (before ++ map (joined_parsed at from) after)
-  both_parsed conditions text before after h first later = record {
-    has = subst (HasChunks text) (ap (λ l. chunks_in before ++ l) (chunks_moved after) ∙ sym (split_chunks before (map (joined_parsed at from) after))) h;
-    derive = both (IsParsed conditions) before (map (joined_parsed at from) after) first (all_mapped _ (joined_parsed at from) (λ p d. d) after later);
-  }
-
-pub joined_tree_law : JoinedTreeLaw
-joined_tree_law conditions left right before rest skipped after at from h k some skips same begins =
-    let later = later_parsed conditions right skipped (from ∷ after) k in
-    both_parsed at.chunk from.chunk conditions (joined_text left at.chunk right from.chunk) before (from ∷ after)
-    (join_law conditions left right (chunks_in before) (chunks_in rest) (chunks_in skipped) (chunks_in after) at.chunk from.chunk
-    (subst (HasChunks left) (split_chunks before (at ∷ rest)) h.has) (subst (HasChunks right) (split_chunks skipped (from ∷ after)) k.has)
-    (some_chunk before some) (some_chunk skipped skips) same begins (derived conditions (from ∷ after) later))
-    (first_parsed conditions left before (at ∷ rest) h) later

@@ -1,11 +1,9 @@
-//! Examples of texts that are cut twice in a row, and of two texts that are joined, checked by
-//! computation.
+//! An example of a text that is cut twice in a row, checked by computation.
 ghost use Rattle.std.specs.Prelude.{◌≡◌, [], ◌∷◌, codes};
 ghost use Rattle.justfile_vocabulary.specs.declared.token_kind.TokenKind.TheVariants.{Colon, Comment, Dedent, Eof, Eol, Identifier, Indent, Text};
 ghost use Rattle.justfile_model.specs.Lexing.Lexed.{Lexed};
 ghost use Rattle.justfile_model.specs.Lexing.Tok.{tok};
 ghost use Rattle.justfile_chunks_grammar.specs.Chunks.{AreParts};
-ghost use Rattle.justfile_chunks.specs.JoinedTexts.{HasChunks, chunk, joined_text};
 
 /// A text is cut after a body and again after the blank line that follows. What is before the
 /// second cut is no text with these tokens: at the end of a text a blank line is the body's, and
@@ -29,22 +27,4 @@ pub fn blank_line_after_body()
         (tok Identifier (codes "a") 0 0 0 ∷ tok Colon (codes ":") 1 0 1 ∷ tok Eol (codes "\n") 2 0 2 ∷
         tok Indent (codes " ") 3 1 0 ∷ tok Text (codes "b") 4 1 1 ∷ tok Eol (codes "\n") 5 1 2 ∷
         tok Eol (codes "\n") 6 2 0 ∷ tok Dedent [] 7 2 1 ∷ tok Eof [] 7 2 1 ∷ []) }
-{}
-
-/// Two texts are joined at a recipe that both have, the one after a body and a blank line, the other
-/// after a line feed: up to the recipe the chunks are the first one's, and from it on the second
-/// one's. At a blank line they can't be joined so: if the text ends with it, it is the body's.
-/// Read up to the first byte of the recipe, the first text has the same chunks before it.
-pub fn joined_at_a_recipe()
-    ensures left { HasChunks (codes "a:\n b\n\nc:\n")
-        (chunk (codes "a:\n b\n") 0 0 ∷ chunk (codes "\n\n") 5 1 ∷ chunk (codes "\nc:\n") 6 2 ∷ []) }
-    ensures further { HasChunks (codes "a:\n b\n\nc")
-        (chunk (codes "a:\n b\n") 0 0 ∷ chunk (codes "\n\n") 5 1 ∷ chunk (codes "\nc") 6 2 ∷ []) }
-    ensures right { HasChunks (codes "\nc:\nd:\n")
-        (chunk (codes "\n") 0 0 ∷ chunk (codes "\nc:\n") 0 0 ∷ chunk (codes "\nd:\n") 3 1 ∷ []) }
-    ensures text { joined_text (codes "a:\n b\n\nc:\n") (chunk (codes "\nc:\n") 6 2)
-        (codes "\nc:\nd:\n") (chunk (codes "\nc:\n") 0 0) ≡ codes "a:\n b\n\nc:\nd:\n" }
-    ensures joined { HasChunks (codes "a:\n b\n\nc:\nd:\n")
-        (chunk (codes "a:\n b\n") 0 0 ∷ chunk (codes "\n\n") 5 1 ∷ chunk (codes "\nc:\n") 6 2 ∷
-        chunk (codes "\nd:\n") 9 3 ∷ []) }
 {}
