@@ -10,7 +10,6 @@ pub mod ManyParts
 pub mod MovedChunks
 pub mod MovedPlaces
 pub mod MovedTrees
-pub mod ParsedChunks
 pub mod PartLexes
 pub mod PartNext
 pub mod PartSteps

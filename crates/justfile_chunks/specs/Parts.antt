@@ -1,6 +1,6 @@
 -- Parts of a text that are texts of their own: some chunks each, read one byte further than they go.
-use Rattle.std.specs.Prelude.{◌≡◌, ◌↔◌, ℕ, ◌+◌, ◌-◌, false, List, [], ◌∷◌, ◌++◌, map, drop, length, reverse}
-use Rattle.std.specs.List.{AllByRecursion, count_by, flat_map}
+use Rattle.std.specs.Prelude.{◌≡◌, ℕ, ◌+◌, ◌-◌, false, List, [], ◌∷◌, ◌++◌, map, drop, length, reverse}
+use Rattle.std.specs.List.{count_by, flat_map}
 use Rattle.std.specs.Str.{IsUtf8}
 use Rattle.justfile_vocabulary.specs.ByteNames as byte
 use Rattle.justfile_model.specs.Grammars.Conditions.{Conditions}
@@ -13,7 +13,7 @@ use Rattle.justfile_model.specs.Lexing.SignificantTokens.{significant_tokens}
 use Rattle.justfile_model.specs.Lexing.Tok.{Tok}
 use Rattle.justfile_model.specs.Trees.Tree.{Tree, shape_of}
 use Rattle.justfile_round_trip.specs.RoundTrip.{TextDerives}
-use Rattle.justfile_chunks_grammar.specs.Chunks.{AreParts, Chunk, IsCut, chunks_of, joined, moved, moved_item, text_of}
+use Rattle.justfile_chunks_grammar.specs.Chunks.{Chunk, IsCut, joined, moved, moved_item, text_of}
 
 -- ---- chunks that are parsed
 
@@ -40,29 +40,6 @@ items_in_text p = map (moved_item p.chunk.offset p.chunk.line) p.tree
 
 abbrev pub features_in_text : ParsedChunk → List (Noted Tok)
 features_in_text p = map (over_noted (moved p.chunk.offset p.chunk.line)) p.features
-
--- ---- the law for parsed chunks
-
--- These are the chunks of the text.
-pub record HasChunks (text : List ℕ) (chunks : List Chunk) : Type 0 where
-  pub utf8 : IsUtf8 text
-  pub tokens : List Tok
-  pub parts : List (List Tok)
-  pub lexed : Lexed text tokens
-  pub are_parts : AreParts tokens parts
-  pub chunks_are : chunks ≡ chunks_of parts
-
--- The text has these chunks, and each of them derives its tree.
-pub record HasParsed (conditions : Conditions) (text : List ℕ) (parsed : List ParsedChunk) : Type 0 where
-  pub has : HasChunks text (map (λ p. p.chunk) parsed)
-  pub derive : AllByRecursion (λ p. TextDerives conditions p.chunk.text p.tree p.features) parsed
-
--- A text that has parsed chunks derives their trees, joined, and a text that derives a tree has such chunks.
-abbrev pub ParsedLaw : Type 0
-ParsedLaw = (conditions : Conditions) (text : List ℕ) (tree : Tree) (features : List (Noted Tok))
-    → TextDerives conditions text tree features
-    ↔ ((parsed : List ParsedChunk) × HasParsed conditions text parsed × (tree ≡ joined (map items_in_text parsed))
-    × (features ≡ flat_map features_in_text parsed))
 
 -- ---- parts that are read
 

@@ -5,7 +5,7 @@
 pub mod examples;
 
 ghost use Rattle.justfile_chunks_grammar.specs.Chunks.{NumberLaw, ShapeLaw, TokenLaw, TreeLaw};
-ghost use Rattle.justfile_chunks.specs.Parts.{JoinedShapeLaw, ParsedLaw, PartsLaw, ReadLaw};
+ghost use Rattle.justfile_chunks.specs.Parts.{JoinedShapeLaw, PartsLaw, ReadLaw};
 
 /// A text derives a shape exactly if its chunks derive it. The chunks are the text cut at its items,
 /// each after the line feed before it. The shape is theirs, joined, without the items of these line
@@ -20,7 +20,6 @@ pub fn chunks_derive()
 /// bindings and of recipes in a text follow on from chunk to chunk.
 pub fn chunks_derive_trees()
     ensures trees { TreeLaw }
-    ensures parsed { ParsedLaw }
     ensures tokens { TokenLaw }
     ensures numbers { NumberLaw }
 {}
