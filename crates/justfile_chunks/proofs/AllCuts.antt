@@ -16,10 +16,10 @@ use Rattle.justfile_model.proofs.Derivations.CarryExpressions.{Pairs, Same, nil,
 use Rattle.justfile_model.proofs.Derivations.Leaves.{elsewhere}
 use Rattle.justfile_model.proofs.Lexing.UnclosedLaws.{reverse_more}
 use Rattle.justfile_round_trip.proofs.LiteralTexts.LexedModes.{Sign, sign}
-use Rattle.justfile_chunks_grammar.specs.Chunks.{AreParts, ChunksHave, Each, HasShape, IsCut, IsCutAfter, Parts, ShapeFeatures, ShapeLaw, chunk_texts, ends_line, joined, line_kind, next_kind}
-use Rattle.justfile_chunks_grammar.proofs.Colons.{IndentsHaveColons}
-use Rattle.justfile_chunks_grammar.proofs.OneCut.{CutLaw, FeedLaw, TokensDeriveShape, colons_law, cut_law, feed_law, rederived, shape_from, shape_to}
-use Rattle.justfile_chunks_grammar.proofs.Passes.{line_ended, line_with}
+use Rattle.justfile_chunks.specs.Chunks.{AreParts, ChunksHave, Each, HasShape, IsCut, IsCutAfter, Parts, ShapeFeatures, ShapeLaw, chunk_texts, ends_line, joined, line_kind, next_kind}
+use Rattle.justfile_chunks.proofs.Colons.{IndentsHaveColons}
+use Rattle.justfile_chunks.proofs.OneCut.{CutLaw, FeedLaw, TokensDeriveShape, colons_law, cut_law, feed_law, rederived, shape_from, shape_to}
+use Rattle.justfile_chunks.proofs.Passes.{line_ended, line_with}
 use Rattle.justfile_chunks.proofs.ChunkTokens.{Borders, ChunkLexes, chunks_by, chunks_lex, closed, ended_before, first_part, onto, plain, tokens_by}
 use Rattle.justfile_chunks.proofs.SameModes.{signs}
 use Rattle.justfile_chunks.proofs.SameNext.{cons_parts}

@@ -14,7 +14,7 @@ use Rattle.justfile_model.specs.Lexing.Modes.{mode, start_mode}
 use Rattle.justfile_model.specs.Lexing.Next.{NextToken, escaped_line_end, layout, next, token_by_class, token_within_line, unknown}
 use Rattle.justfile_model.specs.Lexing.SignificantTokens.{is_whitespace}
 use Rattle.justfile_model.specs.Lexing.Tok.{Tok}
-use Rattle.justfile_chunks_grammar.specs.Chunks.{IsCut, next_kind, text_of}
+use Rattle.justfile_chunks.specs.Chunks.{IsCut, next_kind, text_of}
 use Rattle.justfile_chunks.proofs.ChunkTokens.{Later}
 use Rattle.justfile_chunks.proofs.CutModes.{Inside, IsInside, class_inside}
 use Rattle.justfile_chunks.proofs.JoinedNext.{IsDark, starts}

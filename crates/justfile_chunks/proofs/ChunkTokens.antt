@@ -21,11 +21,11 @@ use Rattle.justfile_round_trip.proofs.LiteralTexts.FormatScans.{same_front}
 use Rattle.justfile_round_trip.proofs.LiteralTexts.LexedModes.{LexesTo, Sign, lexed, sign, toks}
 use Rattle.justfile_round_trip.proofs.RecipeBodies.Lines.{blank_line}
 use Rattle.justfile_round_trip.proofs.Values.TokenFacts.{Runs}
-use Rattle.justfile_chunks_grammar.specs.Chunks.{AreParts, IsCut, Parts, after_feed, chunk_texts, next_kind, text_of}
+use Rattle.justfile_chunks.specs.Chunks.{AreParts, IsCut, Parts, after_feed, chunk_texts, next_kind, text_of}
 use Rattle.justfile_chunks.proofs.CutModes.{BodyHasLevel, level_after, mode_at_cut}
 use Rattle.justfile_chunks.proofs.PartLexes.{EndsEmpty, EndsOnce, IsPart, but_last, colons_back, ends_later, last_lexes, last_signs, part_lexes, same_colons}
 use Rattle.justfile_chunks.proofs.PartSteps.{Uncut, kind_is, len_is}
-use Rattle.justfile_chunks_grammar.proofs.Colons.{IndentsHaveColons, NeedsColon, colon_after}
+use Rattle.justfile_chunks.proofs.Colons.{IndentsHaveColons, NeedsColon, colon_after}
 use Rattle.justfile_chunks.proofs.SameModes.{HaveColon, NoneIsEof, signs, mode_past}
 use Rattle.justfile_chunks.proofs.SameNext.{SameMode}
 use Rattle.justfile_chunks.proofs.SplitRuns.{in_order, runs_of, split_run, split_utf8}

@@ -10,8 +10,8 @@ use Rattle.justfile_model.proofs.Lexing.LexedLaws.{from_follows}
 use Rattle.justfile_round_trip.proofs.LiteralTexts.FormatScans.{same_front}
 use Rattle.justfile_round_trip.proofs.LiteralTexts.LexedModes.{LexesIn, Sign, follows, sign, tok_at, toks}
 use Rattle.justfile_round_trip.proofs.Values.TokenFacts.{Runs}
-use Rattle.justfile_chunks_grammar.specs.Chunks.{moved, text_of}
-use Rattle.justfile_chunks_grammar.proofs.Colons.{IndentsHaveColons}
+use Rattle.justfile_chunks.specs.Chunks.{moved, text_of}
+use Rattle.justfile_chunks.proofs.Colons.{IndentsHaveColons}
 use Rattle.justfile_chunks.proofs.ChunkTokens.{Later, signs_toks, no_colon}
 use Rattle.justfile_chunks.proofs.JoinedNext.{IsDark, joined_next}
 use Rattle.justfile_chunks.proofs.MovedChunks.{none_more, stands}

@@ -25,7 +25,7 @@ use Rattle.justfile_round_trip.proofs.LiteralTexts.FormatScans.{same_front}
 use Rattle.justfile_round_trip.proofs.LiteralTexts.LexedModes.{take_front}
 use Rattle.justfile_round_trip.proofs.LiteralTexts.Literals.{front_byte}
 use Rattle.justfile_round_trip.proofs.Values.TokenFacts.{Runs}
-use Rattle.justfile_chunks_grammar.specs.Chunks.{IsCut, IsCutAfter, ends_line, line_kind, next_kind}
+use Rattle.justfile_chunks.specs.Chunks.{IsCut, IsCutAfter, ends_line, line_kind, next_kind}
 use Rattle.justfile_chunks.proofs.CutModes.{next_fact, or_none}
 use Rattle.justfile_chunks.proofs.FeedTexts.{no_blank_feed, run_within}
 use Rattle.justfile_chunks.proofs.PartNext.{ClosesAlike, part_next}

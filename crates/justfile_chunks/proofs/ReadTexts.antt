@@ -23,10 +23,10 @@ use Rattle.justfile_model.specs.Trees.Tree.{Tree, lexeme}
 use Rattle.justfile_round_trip.specs.RoundTrip.{TextDerives}
 use Rattle.justfile_round_trip.proofs.LiteralTexts.FormatScans.{same_front}
 use Rattle.justfile_round_trip.proofs.Values.TokenFacts.{Runs}
-use Rattle.justfile_chunks_grammar.specs.Chunks.{IsCut, moved, moved_item, next_kind, text_of}
-use Rattle.justfile_chunks_grammar.proofs.Colons.{IndentsHaveColons, colon_after}
-use Rattle.justfile_chunks_grammar.proofs.Moved.{moved_derives}
-use Rattle.justfile_chunks_grammar.proofs.OneCut.{TokensDeriveTree, cut_law, feed_law, tree_from, tree_to}
+use Rattle.justfile_chunks.specs.Chunks.{IsCut, moved, moved_item, next_kind, text_of}
+use Rattle.justfile_chunks.proofs.Colons.{IndentsHaveColons, colon_after}
+use Rattle.justfile_chunks.proofs.Moved.{moved_derives}
+use Rattle.justfile_chunks.proofs.OneCut.{TokensDeriveTree, cut_law, feed_law, tree_from, tree_to}
 use Rattle.justfile_chunks.specs.Parts.{ReadLaw}
 use Rattle.justfile_chunks.proofs.AllCuts.{onto_reverse}
 use Rattle.justfile_chunks.proofs.AskedNext.{as_asked, cut_next, same_by_byte}

@@ -13,7 +13,7 @@ use Rattle.justfile_model.specs.Lexing.SignificantTokens.{significant_tokens}
 use Rattle.justfile_model.specs.Lexing.Tok.{Tok}
 use Rattle.justfile_model.specs.Trees.Tree.{Tree, shape_of}
 use Rattle.justfile_round_trip.specs.RoundTrip.{TextDerives}
-use Rattle.justfile_chunks_grammar.specs.Chunks.{Chunk, IsCut, joined, moved, moved_item, text_of}
+use Rattle.justfile_chunks.specs.Chunks.{Chunk, IsCut, joined, moved, moved_item, text_of}
 
 -- ---- chunks that are parsed
 

@@ -1,10 +1,10 @@
-//! The laws of chunks: what a text derives is what its chunks derive, joined. They are about the
-//! definitions alone.
+//! The chunks of a text, as definitions, and their laws: what a text derives is what its chunks
+//! derive, joined.
 #![tactic(auto)]
 
 pub mod examples;
 
-ghost use Rattle.justfile_chunks_grammar.specs.Chunks.{NumberLaw, ShapeLaw, TokenLaw, TreeLaw};
+ghost use Rattle.justfile_chunks.specs.Chunks.{NumberLaw, ShapeLaw, TokenLaw, TreeLaw};
 ghost use Rattle.justfile_chunks.specs.Parts.{JoinedShapeLaw, PartsLaw, ReadLaw};
 
 /// A text derives a shape exactly if its chunks derive it. The chunks are the text cut at its items,
