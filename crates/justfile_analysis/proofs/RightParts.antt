@@ -8,9 +8,8 @@ use Rattle.justfile_model.specs.Grammars.Conditions.{Conditions}
 use Rattle.justfile_model.specs.Lexing.Places.{is_line_feed}
 use Rattle.justfile_model.specs.Trees.Tree.{shape_of}
 use Rattle.justfile_round_trip.specs.RoundTrip.{TextDerives}
-use Rattle.justfile_chunks_grammar.specs.Chunks.{joined}
-use Rattle.justfile_chunks.specs.JoinedTexts.{ParsedChunk, features_in_text, items_in_text}
-use Rattle.justfile_chunks.specs.Parts.{AreRead}
+use Rattle.justfile_chunks.specs.Chunks.{joined}
+use Rattle.justfile_chunks.specs.Parts.{AreRead, ParsedChunk, features_in_text, items_in_text}
 use Rattle.justfile_chunks.proofs.ManyParts.{parts_law}
 use Rattle.justfile_chunks.proofs.MovedPlaces.{feeds_append}
 use Rattle.justfile_chunks.proofs.MovedTrees.{joined_shapes}

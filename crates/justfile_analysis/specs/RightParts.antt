@@ -9,9 +9,8 @@ use Rattle.justfile_model.specs.Lexing.Places.{is_line_feed}
 use Rattle.justfile_model.specs.Lexing.Tok.{Tok}
 use Rattle.justfile_model.specs.Trees.Tree.{Tree, shape_of}
 use Rattle.justfile_round_trip.specs.RoundTrip.{TextDerives}
-use Rattle.justfile_chunks_grammar.specs.Chunks.{joined}
-use Rattle.justfile_chunks.specs.JoinedTexts.{ParsedChunk, chunk, features_in_text, items_in_text}
-use Rattle.justfile_chunks.specs.Parts.{AreRead, IsRead}
+use Rattle.justfile_chunks.specs.Chunks.{joined}
+use Rattle.justfile_chunks.specs.Parts.{AreRead, IsRead, ParsedChunk, chunk, features_in_text, items_in_text}
 use Rattle.text_parts.specs.Parts.{before}
 
 -- ---- right parts

@@ -15,9 +15,8 @@ use Rattle.justfile_ast.specs.declared.separator.Separator.TheVariants.{Start}
 use Rattle.justfile_model.proofs.Printed.IndentedShapes.{indentation_shape}
 use Rattle.justfile_round_trip.specs.RoundTrip.{TextDerives}
 use Rattle.justfile_round_trip.proofs.LiteralTexts.FormatScans.{same_front}
-use Rattle.justfile_chunks_grammar.specs.Chunks.{joined}
-use Rattle.justfile_chunks.specs.JoinedTexts.{ParsedChunk, chunk, features_in_text, items_in_text}
-use Rattle.justfile_chunks.specs.Parts.{AreRead, IsRead, IsReadBefore}
+use Rattle.justfile_chunks.specs.Chunks.{joined}
+use Rattle.justfile_chunks.specs.Parts.{AreRead, IsRead, IsReadBefore, ParsedChunk, chunk, features_in_text, items_in_text}
 use Rattle.justfile_chunks.proofs.ManyParts.{parts_law}
 use Rattle.justfile_chunks.proofs.MovedPlaces.{feeds_append}
 use Rattle.justfile_chunks.proofs.MovedTrees.{joined_shapes}

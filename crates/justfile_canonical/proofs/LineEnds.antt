@@ -9,7 +9,7 @@ use Rattle.justfile_model.specs.Lexing.SignificantTokens.{significant_tokens}
 use Rattle.justfile_model.specs.Lexing.Tok.{Tok}
 use Rattle.justfile_model.specs.Trees.Tree.{Tree, shape_of}
 use Rattle.justfile_round_trip.specs.RoundTrip.{TextDerives}
-use Rattle.justfile_chunks_grammar.specs.Chunks.{IsCut}
+use Rattle.justfile_chunks.specs.Chunks.{IsCut}
 use Rattle.justfile_chunks.specs.Parts.{IsRead}
 use Rattle.justfile_chunks.proofs.ReadTexts.{feed_before, newline_first}
 use Rattle.justfile_canonical.specs.Parts.{HasLineEnd, IsPartText}

@@ -16,10 +16,10 @@ use Rattle.justfile_model.proofs.Derivations.CarryExpressions.{Pairs, Same, nil,
 use Rattle.justfile_model.proofs.Derivations.Leaves.{elsewhere}
 use Rattle.justfile_model.proofs.Lexing.UnclosedLaws.{reverse_more}
 use Rattle.justfile_round_trip.proofs.LiteralTexts.LexedModes.{Sign, sign}
-use Rattle.justfile_chunks_grammar.specs.Chunks.{AreParts, ChunksHave, Each, HasShape, IsCut, IsCutAfter, Parts, ShapeFeatures, ShapeLaw, chunk_texts, ends_line, joined, line_kind, next_kind}
-use Rattle.justfile_chunks_grammar.proofs.Colons.{IndentsHaveColons}
-use Rattle.justfile_chunks_grammar.proofs.OneCut.{CutLaw, FeedLaw, TokensDeriveShape, colons_law, cut_law, feed_law, rederived, shape_from, shape_to}
-use Rattle.justfile_chunks_grammar.proofs.Passes.{line_ended, line_with}
+use Rattle.justfile_chunks.specs.Chunks.{AreParts, ChunksHave, Each, HasShape, IsCut, IsCutAfter, Parts, ShapeFeatures, ShapeLaw, chunk_texts, ends_line, joined, line_kind, next_kind}
+use Rattle.justfile_chunks.proofs.Colons.{IndentsHaveColons}
+use Rattle.justfile_chunks.proofs.OneCut.{CutLaw, FeedLaw, TokensDeriveShape, colons_law, cut_law, feed_law, rederived, shape_from, shape_to}
+use Rattle.justfile_chunks.proofs.Passes.{line_ended, line_with}
 use Rattle.justfile_chunks.proofs.ChunkTokens.{Borders, ChunkLexes, chunks_by, chunks_lex, closed, ended_before, first_part, onto, plain, tokens_by}
 use Rattle.justfile_chunks.proofs.SameModes.{signs}
 use Rattle.justfile_chunks.proofs.SameNext.{cons_parts}
@@ -39,13 +39,13 @@ pairs_of _ _ e g = cc
 
 -- ---- cuts, by what is before them
 
-pub levels_like : (k : TokenKind) (t u : Tok) (m n : Mode) → t.lexeme ≡ u.lexeme → m.levels ≡ n.levels
+levels_like : (k : TokenKind) (t u : Tok) (m n : Mode) → t.lexeme ≡ u.lexeme → m.levels ≡ n.levels
     → (mode_after k t m).levels ≡ (mode_after k u n).levels
 levels_like kinds.Indent t u m n l e = λ i. l i ∷ e i
 levels_like kinds.Dedent t u m n l e = ap tail_of e
 levels_like _ t u m n l e = e
 
-pub cut_by : (t u : Tok) (e f ts us : List Tok) → t.kind ≡ u.kind → (mode (t ∷ e)).levels ≡ (mode (u ∷ f)).levels → line_kind e ≡ line_kind f
+cut_by : (t u : Tok) (e f ts us : List Tok) → t.kind ≡ u.kind → (mode (t ∷ e)).levels ≡ (mode (u ∷ f)).levels → line_kind e ≡ line_kind f
     → next_kind ts ≡ next_kind us → IsCutAfter t e ts → IsCutAfter u f us
 cut_by t u e f ts us kind levels line next c = record {
   ends = sym (ap ends_line kind) ∙ c.ends;
@@ -69,11 +69,11 @@ onto_reverse [] e = refl
 onto_reverse (t ∷ p) e = reverse_more t p e ∙ onto_reverse p (t ∷ e)
 
 -- no level is open and the line is ended, at the start of a text and after a cut
-pub record Fresh (earlier : List Tok) : Type 0 where
+record Fresh (earlier : List Tok) : Type 0 where
   pub levels : (mode earlier).levels ≡ []
   pub line : line_kind earlier ≡ None
 
-pub fresh : (e rest : List Tok) → IsCut e rest → Fresh e
+fresh : (e rest : List Tok) → IsCut e rest → Fresh e
 fresh [] rest c = absurd c
 fresh (t ∷ e) rest c = record { levels = c.outside; line = line_ended t.kind (line_kind e) c.ends }
 

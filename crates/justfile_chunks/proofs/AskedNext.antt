@@ -14,7 +14,7 @@ use Rattle.justfile_model.specs.Lexing.Modes.{mode, start_mode}
 use Rattle.justfile_model.specs.Lexing.Next.{NextToken, escaped_line_end, layout, next, token_by_class, token_within_line, unknown}
 use Rattle.justfile_model.specs.Lexing.SignificantTokens.{is_whitespace}
 use Rattle.justfile_model.specs.Lexing.Tok.{Tok}
-use Rattle.justfile_chunks_grammar.specs.Chunks.{IsCutAfter, next_kind, text_of}
+use Rattle.justfile_chunks.specs.Chunks.{IsCut, next_kind, text_of}
 use Rattle.justfile_chunks.proofs.ChunkTokens.{Later}
 use Rattle.justfile_chunks.proofs.CutModes.{Inside, IsInside, class_inside}
 use Rattle.justfile_chunks.proofs.JoinedNext.{IsDark, starts}
@@ -50,8 +50,9 @@ asked_is (Some j) k e = by j e
     by kinds.Eof e = e
     by _ e = cc
 
-pub cut_next : (t : Tok) (e ts us : List Tok) → SameAsked ts us → IsCutAfter t e ts → IsCutAfter t e us
-cut_next t e ts us same c = record {
+pub cut_next : (e ts us : List Tok) → SameAsked ts us → IsCut e ts → IsCut e us
+cut_next [] ts us same c = absurd c
+cut_next (t ∷ e) ts us same c = record {
   ends = c.ends;
   outside = c.outside;
   no_body = λ h. c.no_body (asked_is (next_kind ts) kinds.Indent (same ∙ ap as_asked h));
@@ -92,7 +93,7 @@ module _ (d : ℕ) (dark : IsDark d) where
   told_by _ = None
 
   module _ (v : List ℕ) where
-    pub found_is : next start_mode (d ∷ v) ≡ token_by_class start_mode (class_of d) (d ∷ v)
+    found_is : next start_mode (d ∷ v) ≡ token_by_class start_mode (class_of d) (d ∷ v)
     unfolding token_within_line
     found_is = starts d dark start_mode v refl refl
 

@@ -21,11 +21,11 @@ use Rattle.justfile_round_trip.proofs.LiteralTexts.FormatScans.{same_front}
 use Rattle.justfile_round_trip.proofs.LiteralTexts.LexedModes.{LexesTo, Sign, lexed, sign, toks}
 use Rattle.justfile_round_trip.proofs.RecipeBodies.Lines.{blank_line}
 use Rattle.justfile_round_trip.proofs.Values.TokenFacts.{Runs}
-use Rattle.justfile_chunks_grammar.specs.Chunks.{AreParts, IsCut, Parts, after_feed, chunk_texts, next_kind, text_of}
+use Rattle.justfile_chunks.specs.Chunks.{AreParts, IsCut, Parts, after_feed, chunk_texts, next_kind, text_of}
 use Rattle.justfile_chunks.proofs.CutModes.{BodyHasLevel, level_after, mode_at_cut}
 use Rattle.justfile_chunks.proofs.PartLexes.{EndsEmpty, EndsOnce, IsPart, but_last, colons_back, ends_later, last_lexes, last_signs, part_lexes, same_colons}
 use Rattle.justfile_chunks.proofs.PartSteps.{Uncut, kind_is, len_is}
-use Rattle.justfile_chunks_grammar.proofs.Colons.{IndentsHaveColons, NeedsColon, colon_after}
+use Rattle.justfile_chunks.proofs.Colons.{IndentsHaveColons, NeedsColon, colon_after}
 use Rattle.justfile_chunks.proofs.SameModes.{HaveColon, NoneIsEof, signs, mode_past}
 use Rattle.justfile_chunks.proofs.SameNext.{SameMode}
 use Rattle.justfile_chunks.proofs.SplitRuns.{in_order, runs_of, split_run, split_utf8}
@@ -66,7 +66,7 @@ first_part (Parts.uncut {earlier = e} {later = l} {part = p} {parts = q ∷ ps} 
     more [] rest is h = tt
     more (w ∷ p) rest is h = (λ c. u (subst (λ x. IsCut (t ∷ e) x) (sym is) c), h)
 
-pub onto_mode : (part earlier : List Tok) → mode (onto earlier part) ≡ mode_past (mode earlier) part
+onto_mode : (part earlier : List Tok) → mode (onto earlier part) ≡ mode_past (mode earlier) part
 onto_mode [] earlier = refl
 onto_mode (t ∷ part) earlier = onto_mode part (t ∷ earlier)
 
@@ -99,7 +99,7 @@ first_bytes t ts m x ne ls u r =
     ⊎_elim (λ some. some) (λ none. absurd (⊎_elim (λ end. ne end) (λ close. omega (arith, close.1, ap length ls)) none))
     ((token_cut m x u t.kind (length t.lexeme) r.2).1)
 
-pub some_bytes : (ts rest : List Tok) (m : Mode) (x : List ℕ) → NoneIsEof ts → 0 < length ts → m.levels ≡ [] → IsUtf8 x → Runs m x (ts ++ rest)
+some_bytes : (ts rest : List Tok) (m : Mode) (x : List ℕ) → NoneIsEof ts → 0 < length ts → m.levels ≡ [] → IsUtf8 x → Runs m x (ts ++ rest)
     → 0 < length (text_of ts)
 some_bytes [] rest m x n l ls u r = absurd (omega arith)
 some_bytes (t ∷ ts) rest m x n l ls u r = omega (arith, first_bytes t (ts ++ rest) m x n.0 ls u r, length-append t.lexeme (text_of ts))
@@ -359,7 +359,7 @@ module _ (b : Borders) (part tokens : List Tok) (ms : List Sign) (are : signs to
       later true c = c
       later false c = subst (λ k. IndentsHaveColons (colon_after k false) tokens) (b.feed_kind part) c.1
 
-pub colons_front : (ts us : List Tok) (colon : Bool) → IndentsHaveColons colon (ts ++ us) → IndentsHaveColons colon ts
+colons_front : (ts us : List Tok) (colon : Bool) → IndentsHaveColons colon (ts ++ us) → IndentsHaveColons colon ts
 colons_front [] us colon c = tt
 colons_front (t ∷ ts) us colon c = (c.0, colons_front ts us (colon_after t.kind colon) c.1)
 
@@ -376,13 +376,13 @@ colons_more (t ∷ ts) true h = by t.kind h.0 h.1 (colons_more ts true)
     by kinds.Dedent n c f = (tt, c)
     by _ n c f = (tt, f c)
 
-pub colons_append : (ts us : List Tok) (colon : Bool) → IndentsHaveColons colon ts → IndentsHaveColons false us → IndentsHaveColons colon (ts ++ us)
+colons_append : (ts us : List Tok) (colon : Bool) → IndentsHaveColons colon ts → IndentsHaveColons false us → IndentsHaveColons colon (ts ++ us)
 colons_append [] us colon h k = colons_more us colon k
 colons_append (t ∷ ts) us colon h k = (h.0, colons_append ts us (colon_after t.kind colon) h.1 k)
 
 module _ (b : Borders) where
   -- a chunk that ends at a cut
-  pub cut_chunk : (earlier part rest : List Tok) → NextPart earlier part rest → (first : Bool)
+  cut_chunk : (earlier part rest : List Tok) → NextPart earlier part rest → (first : Bool)
       → ChunkLexes (text_by first part) (tokens_by b first part (closed b first part))
   cut_chunk earlier part rest n first =
       let t = b.eof first part in
@@ -395,7 +395,7 @@ module _ (b : Borders) where
       first
 
   -- the last chunk
-  pub last_chunk : (earlier later : List Tok) → Later earlier later → (first : Bool) → ChunkLexes (text_by first later) (tokens_by b first later later)
+  last_chunk : (earlier later : List Tok) → Later earlier later → (first : Bool) → ChunkLexes (text_by first later) (tokens_by b first later later)
   last_chunk earlier later h =
       chunk_by b later later (signs (but_last later)) (last_signs later h.ends h.empty)
       (λ c. record { is = last_lexes later (mode earlier) start_mode false h.same (no_colon (mode earlier) start_mode) c h.ends h.empty h.run })

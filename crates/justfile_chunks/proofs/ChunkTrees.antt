@@ -17,11 +17,11 @@ use Rattle.justfile_model.specs.Trees.LeafView.{views_tokens}
 use Rattle.justfile_model.specs.Trees.Tree as tree
 use Rattle.justfile_model.specs.Trees.Tree.{Tree, lexeme}
 use Rattle.justfile_model.proofs.Derivations.CarryExpressions.{Pairs}
-use Rattle.justfile_chunks_grammar.specs.Chunks.{AreParts, Chunk, ChunksHave, Each, FollowOn, HasTokens, HasTree, NumberLaw, NumbersOf, TokenLaw, TreeLaw, after_feed, chunk_texts, chunks_of, first_chunk, joined, later_chunk, moved, moved_item, with_bytes}
-use Rattle.justfile_chunks_grammar.proofs.Colons.{IndentsHaveColons}
-use Rattle.justfile_chunks_grammar.proofs.Moved.{derives_moved, moved_derives}
-use Rattle.justfile_chunks_grammar.proofs.OneCut.{TokensDeriveTree, colons_law, cut_law, feed_law, rederived, tree_from, tree_to}
-use Rattle.justfile_chunks_grammar.proofs.OtherDedents.{Near, NearToken, file_near, near_back, near_tokens}
+use Rattle.justfile_chunks.specs.Chunks.{AreParts, Chunk, ChunksHave, Each, FollowOn, HasTokens, HasTree, NumberLaw, NumbersOf, TokenLaw, TreeLaw, after_feed, chunk_texts, chunks_of, first_chunk, joined, later_chunk, moved, moved_item, with_bytes}
+use Rattle.justfile_chunks.proofs.Colons.{IndentsHaveColons}
+use Rattle.justfile_chunks.proofs.Moved.{derives_moved, moved_derives}
+use Rattle.justfile_chunks.proofs.OneCut.{TokensDeriveTree, colons_law, cut_law, feed_law, rederived, tree_from, tree_to}
+use Rattle.justfile_chunks.proofs.OtherDedents.{Near, NearToken, file_near, near_back, near_tokens}
 use Rattle.justfile_chunks.proofs.AllCuts.{cuts_have, each_same, zip_over}
 use Rattle.justfile_chunks.proofs.ChunkTokens.{ChunkLexes, chunks_by, chunks_lex, ended_before, first_part}
 use Rattle.justfile_chunks.proofs.MovedChunks.{NearChunk, borders, chunks_near, in_text}

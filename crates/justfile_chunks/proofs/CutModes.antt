@@ -25,7 +25,7 @@ use Rattle.justfile_model.specs.Lexing.Modes.{Mode, innermost, is_empty, mode_af
 use Rattle.justfile_model.specs.Lexing.Next.{NextToken, Region, InText, InInterpolation, OutsideText, begins_blank_line, blanks_or, body_token, brace_by, closing_delimiter, doubled_token, fixed_token, is_level, is_same, layout, line_end_token, literal_part, literal_token, next, next_by, region_by, tested_blanks, text_or, token_by_class, token_in_region, token_within_line}
 use Rattle.justfile_model.specs.Lexing.Tok.{Tok}
 use Rattle.justfile_round_trip.proofs.RecipeBodies.BodyTokens.{InBody}
-use Rattle.justfile_chunks_grammar.specs.Chunks.{ends_line}
+use Rattle.justfile_chunks.specs.Chunks.{ends_line}
 use Rattle.justfile_chunks.proofs.SameNext.{SameMode}
 
 -- a line ends outside of the text of a body only if nothing is nested, and neither a dedent nor an indent comes within a line

@@ -1,25 +1,21 @@
 -- The tokens of a joined text: those of the one text before a cut, and those of the other after a cut, moved.
-use Rattle.std.proofs.Common.{◌≡◌, ◌∙◌, ℕ, zero, suc, ◌+◌, ◌-◌, ◌<◌, false, List, [], ◌∷◌, ◌++◌, inr, length, map, take, refl, sym, ap, subst, arith, append_assoc, append-nil, length-append}
-use Rattle.std.specs.List.{AllByRecursion, count_by}
+use Rattle.std.proofs.Common.{◌≡◌, ◌∙◌, ℕ, ◌+◌, ◌-◌, ◌<◌, false, List, [], ◌∷◌, ◌++◌, inr, length, map, take, refl, sym, ap, subst, arith, append_assoc, append-nil, length-append}
+use Rattle.std.specs.List.{count_by}
 use Rattle.std.specs.Str.{IsUtf8}
-use Rattle.justfile_vocabulary.specs.declared.token_kind.TokenKind.TheVariants as kinds
 use Rattle.justfile_model.specs.Lexing.Lexed.{Lexed}
 use Rattle.justfile_model.specs.Lexing.Modes.{Mode, mode, mode_after, start_mode}
 use Rattle.justfile_model.specs.Lexing.Places.{column_at, is_line_feed, last_line_start, line_of_offset, text_before}
 use Rattle.justfile_model.specs.Lexing.Tok.{Tok, tok}
 use Rattle.justfile_model.proofs.Lexing.LexedLaws.{from_follows}
-use Rattle.justfile_model.proofs.Lists.AllParts.{all_mapped}
 use Rattle.justfile_round_trip.proofs.LiteralTexts.FormatScans.{same_front}
-use Rattle.justfile_round_trip.proofs.LiteralTexts.LexedModes.{LexesIn, Sign, follows, lexed, sign, tok_at, toks}
-use Rattle.justfile_round_trip.proofs.RecipeBodies.Lines.{blank_line}
+use Rattle.justfile_round_trip.proofs.LiteralTexts.LexedModes.{LexesIn, Sign, follows, sign, tok_at, toks}
 use Rattle.justfile_round_trip.proofs.Values.TokenFacts.{Runs}
-use Rattle.justfile_chunks_grammar.specs.Chunks.{Chunk, moved, text_of}
-use Rattle.justfile_chunks_grammar.proofs.Colons.{IndentsHaveColons}
+use Rattle.justfile_chunks.specs.Chunks.{moved, text_of}
+use Rattle.justfile_chunks.proofs.Colons.{IndentsHaveColons}
 use Rattle.justfile_chunks.proofs.ChunkTokens.{Later, signs_toks, no_colon}
 use Rattle.justfile_chunks.proofs.JoinedNext.{IsDark, joined_next}
-use Rattle.justfile_chunks.proofs.JoinedParts.{IsAfter, elsewhere}
 use Rattle.justfile_chunks.proofs.MovedChunks.{none_more, stands}
-use Rattle.justfile_chunks.proofs.MovedPlaces.{Moves, Placed, feeds_append, inside, last_moved, placed, placed_after}
+use Rattle.justfile_chunks.proofs.MovedPlaces.{Moves, Placed, inside, last_moved, placed, placed_after}
 use Rattle.justfile_chunks.proofs.PartLexes.{but_last, last_lexes, last_signs}
 use Rattle.justfile_chunks.proofs.SameModes.{NoneIsEof, signs, mode_past}
 use Rattle.justfile_chunks.proofs.SameNext.{SameMode, cons_parts}
@@ -30,7 +26,7 @@ use Rattle.justfile_chunks.proofs.TidyModes.{EndsInFeed, Fed, fed_suffix}
 
 module _ (d : ℕ) (dark : IsDark d) (v x : List ℕ) where
   -- the tokens before the byte are those of the joined text
-  pub runs_joined : (ts : List Tok) (m : Mode) → IsUtf8 (text_of ts ++ (d ∷ v)) → Fed (text_of ts) → NoneIsEof ts → Runs m (text_of ts ++ (d ∷ v)) ts
+  runs_joined : (ts : List Tok) (m : Mode) → IsUtf8 (text_of ts ++ (d ∷ v)) → Fed (text_of ts) → NoneIsEof ts → Runs m (text_of ts ++ (d ∷ v)) ts
       → Runs m (text_of ts ++ (d ∷ x)) ts
   runs_joined [] m u f n r = tt
   runs_joined (t ∷ ts) m u f n r =
@@ -44,7 +40,7 @@ module _ (d : ℕ) (dark : IsDark d) (v x : List ℕ) where
       )
 
 -- each token is at its place in the text
-abbrev pub Standing : List ℕ → ℕ → List Tok → Type 0
+abbrev Standing : List ℕ → ℕ → List Tok → Type 0
 Standing text offset [] = Unit {0}
 Standing text offset (t ∷ ts) = (t ≡ tok_at text offset (sign t.kind t.lexeme)) × Standing text (offset + length t.lexeme) ts
 
@@ -61,7 +57,7 @@ module _ (p r s : List ℕ) where
   column_same k l = ap (λ y. k - last_line_start y) (before_is p r k l ∙ sym (before_is p s k l))
 
   -- tokens that end before the end of a front stand in all texts with that front
-  pub standing : (ts : List Tok) (k : ℕ) → Placed (p ++ r) k ts → k + length (text_of ts) < length p → Standing (p ++ s) k ts
+  standing : (ts : List Tok) (k : ℕ) → Placed (p ++ r) k ts → k + length (text_of ts) < length p → Standing (p ++ s) k ts
   standing [] k h l = tt
   standing (t ∷ ts) k h l =
       let here : k < length p = omega (arith, l, length-append t.lexeme (text_of ts)) in (
@@ -107,67 +103,23 @@ text_signs (t ∷ ts) (u ∷ us) e =
     λ i. (h.0 i).lexeme ++ text_signs ts us h.1 i
 text_signs _ _ e = cc
 
--- tokens that are moved to two places
-module _ (at from : Chunk) where
-  back_again : (a b n : ℕ) → a + ((b + n) - b) ≡ a + n
-  back_again a b n = omega arith
-
-  moved_elsewhere : (us : List Tok) → map (elsewhere at from) (map (moved from.offset from.line) us) ≡ map (moved at.offset at.line) us
-  moved_elsewhere [] = refl
-  moved_elsewhere (u ∷ us) = λ i.
-      (record {
-        kind = u.kind;
-        lexeme = u.lexeme;
-        offset = back_again at.offset from.offset u.offset i;
-        line = back_again at.line from.line u.line i;
-        column = u.column;
-      }) ∷ moved_elsewhere us i
-
-  abbrev IsLater : Tok → Type 0
-  IsLater u = (0 < u.offset) × (0 < u.line)
-
-  -- after a line feed at the start, tokens are on a later line
-  line_later : (r : List ℕ) (k : ℕ) → 0 < length r → 0 < k → 0 < line_of_offset (10 ∷ r) k
-  unfolding line_of_offset
-  line_later [] k l h = absurd (omega arith)
-  line_later (y ∷ ys) zero l h = absurd (omega arith)
-  line_later (y ∷ ys) (suc k) l h =
-      let less : length (10 ∷ y ∷ ys) - 1 ≡ suc (length ys) = omega arith in
-      subst (λ n. 0 < count_by is_line_feed (take (suc k) (take n (10 ∷ y ∷ ys)))) (sym less) (by (take k (take (length ys) (y ∷ ys))))
-    where
-      by : (l : List ℕ) → 0 < count_by is_line_feed (10 ∷ l)
-      by l = omega (arith, feeds_append (10 ∷ []) l)
-
-  placed_later : (r : List ℕ) (us : List Tok) (k : ℕ) → 0 < length r → 0 < k → Placed (10 ∷ r) k us → AllByRecursion IsLater us
-  placed_later r [] k l h p = tt
-  placed_later r (u ∷ us) k l h p = (
-    (omega (arith, p.0.offset_is, h), omega (arith, p.0.line_is, ap (line_of_offset (10 ∷ r)) p.0.offset_is, line_later r k l h)),
-    placed_later r us (k + length u.lexeme) l (omega (arith, h)) p.1,
-  )
-
 -- tokens of a text after its front, and those of their text after a line feed
 module _ (text front : List ℕ) (ts us : List Tok) (offset line : ℕ) (moves : Moves front (10 ∷ []) offset line) (some : 0 < length (text_of ts))
     (is : text ≡ front ++ text_of ts) (there : Placed text (length front) ts) (here : Placed (10 ∷ text_of ts) 1 us) (same : signs us ≡ signs ts) where
-  pub rest_moved : ts ≡ map (moved offset line) us
+  rest_moved : ts ≡ map (moved offset line) us
   rest_moved =
       let whole : text ≡ front ++ (text_of ts ++ []) = is ∙ ap (λ x. front ++ x) (sym (append-nil (text_of ts))) in
       last_moved front (10 ∷ []) (text_of ts) offset line moves some ts us 0
       (subst (λ n. Placed (front ++ (text_of ts ++ [])) n ts) (omega arith) (subst (λ x. Placed x (length front) ts) whole there))
       (subst (λ x. Placed (10 ∷ x) 1 us) (sym (append-nil (text_of ts))) here) same (omega arith)
 
--- the tokens of the joined text
-pub record Joined (at from : Chunk) (text : List ℕ) (front rest : List Tok) : Type 0 where
-  pub lexed : Lexed text (front ++ map (elsewhere at from) rest)
-  pub after : AllByRecursion (IsAfter at from) rest
-
--- Tokens before a cut in the left text; a byte after it, the other bytes of the left text and those of the right text; and the tokens after a
--- cut in the right text, which begins with that byte.
-module _ (at from : Chunk) (d : ℕ) (dark : IsDark d) (v x : List ℕ) (front earlier rest : List Tok) (before : List ℕ) (rest_is : text_of rest ≡ d ∷ x)
+-- Tokens before a cut in the left text; a byte after it, the other bytes of the left text and those after it in the right text; and the tokens of
+-- the right text, which begins with that byte, after a line feed.
+module _ (offset line : ℕ) (d : ℕ) (dark : IsDark d) (v x : List ℕ) (front earlier rest : List Tok) (rest_is : text_of rest ≡ d ∷ x)
     (utf8 : IsUtf8 (text_of front ++ (d ∷ v))) (fed : EndsInFeed (text_of front)) (no_eof : NoneIsEof front)
     (run : Runs start_mode (text_of front ++ (d ∷ v)) front) (ended : SameMode (mode_past start_mode front) start_mode)
     (left_places : Placed (text_of front ++ (d ∷ v)) 0 front) (later : Later earlier rest) (colons : IndentsHaveColons false rest)
-    (right_places : Placed (before ++ text_of rest) (length before) rest)
-    (left_moves : Moves (text_of front) (10 ∷ []) at.offset at.line) (right_moves : Moves before (10 ∷ []) from.offset from.line) where
+    (right_places : Placed (10 ∷ text_of rest) 1 rest) (moves : Moves (text_of front) (10 ∷ []) offset line) where
   abbrev text : List ℕ
   text = text_of front ++ (d ∷ x)
 
@@ -214,41 +166,13 @@ module _ (at from : Chunk) (d : ℕ) (dark : IsDark d) (v x : List ℕ) (front e
   others_text : text_of others ≡ text_of rest
   others_text = text_signs others rest others_signs
 
-  -- the tokens after a line feed
-  abbrev feed : List ℕ
-  feed = 10 ∷ text_of rest
-
-  abbrev own : List Tok
-  own = toks feed (0 + 1) ms
-
-  own_lexed : Lexed feed (toks feed 0 (sign kinds.Eol (10 ∷ []) ∷ ms))
-  own_lexed = lexed feed (sign kinds.Eol (10 ∷ []) ∷ ms) (blank_line false (record {
-    is = last_lexes rest (mode earlier) start_mode false later.same (no_colon (mode earlier) start_mode) colons later.ends later.empty later.run;
-  }))
-
-  own_placed : Placed feed 1 own
-  own_placed = (placed feed (toks feed 0 (sign kinds.Eol (10 ∷ []) ∷ ms)) own_lexed).1
-
-  own_signs : signs own ≡ signs rest
-  own_signs = signs_toks feed (0 + 1) ms ∙ sym (last_signs rest later.ends later.empty)
-
-  some : 0 < length (text_of rest)
-  some = omega (arith, ap length rest_is)
-
-  rest_are : rest ≡ map (moved from.offset from.line) own
-  rest_are = rest_moved (before ++ text_of rest) before rest own from.offset from.line right_moves some refl right_places own_placed own_signs
-
-  others_are : others ≡ map (moved at.offset at.line) own
+  others_are : others ≡ map (moved offset line) rest
   others_are =
-      rest_moved text (text_of front) others own at.offset at.line left_moves (omega (arith, ap length others_text, some))
+      rest_moved text (text_of front) others rest offset line moves (omega (arith, ap length others_text, ap length rest_is))
       (ap (λ y. text_of front ++ y) (sym (others_text ∙ rest_is)))
       (subst (λ n. Placed text n others) (none_more (length (text_of front))) (placed_after text front others 0 (placed text (front ++ others) lexed_text)))
-      (subst (λ y. Placed (10 ∷ y) 1 own) (sym others_text) own_placed) (own_signs ∙ sym others_signs)
+      (subst (λ y. Placed (10 ∷ y) 1 rest) (sym others_text) right_places) (sym others_signs)
 
-  pub joined_tokens : Joined at from text front rest
-  joined_tokens = record {
-    lexed = subst (λ ts. Lexed text (front ++ ts)) (others_are ∙ sym (moved_elsewhere at from own) ∙ ap (map (elsewhere at from)) (sym rest_are)) lexed_text;
-    after = subst (AllByRecursion (IsAfter at from)) (sym rest_are)
-        (all_mapped _ (moved from.offset from.line) (λ u h. (omega (arith, h.0), omega (arith, h.1))) own
-        (placed_later at from (text_of rest) own 1 some (omega arith) own_placed));
-  }
+  -- the tokens of the joined text
+  pub joined_tokens : Lexed text (front ++ map (moved offset line) rest)
+  joined_tokens = subst (λ ts. Lexed text (front ++ ts)) others_are lexed_text

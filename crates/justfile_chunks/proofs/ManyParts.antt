@@ -13,10 +13,9 @@ use Rattle.justfile_model.specs.Lexing.Tok.{Tok}
 use Rattle.justfile_model.specs.Trees.Tree as tree
 use Rattle.justfile_model.specs.Trees.Tree.{Tree}
 use Rattle.justfile_round_trip.specs.RoundTrip.{TextDerives}
-use Rattle.justfile_chunks_grammar.specs.Chunks.{joined, moved, moved_item, text_of}
-use Rattle.justfile_chunks_grammar.proofs.Moved.{moved_derives}
-use Rattle.justfile_chunks.specs.JoinedTexts.{ParsedChunk, features_in_text, items_in_text}
-use Rattle.justfile_chunks.specs.Parts.{AreRead, IsRead, PartsLaw}
+use Rattle.justfile_chunks.specs.Chunks.{joined, moved, moved_item, text_of}
+use Rattle.justfile_chunks.proofs.Moved.{moved_derives}
+use Rattle.justfile_chunks.specs.Parts.{AreRead, IsRead, ParsedChunk, PartsLaw, features_in_text, items_in_text}
 use Rattle.justfile_chunks.proofs.MovedChunks.{none_more}
 use Rattle.justfile_chunks.proofs.MovedTrees.{drop_mapped, items_twice, noted_twice}
 use Rattle.justfile_chunks.proofs.ReadTexts.{BeginsWithNewline, feed_before, newline_first, read_law}

@@ -15,8 +15,8 @@ use Rattle.justfile_model.proofs.Lexing.NextLaws as next_law
 use Rattle.justfile_model.proofs.Lexing.NextLaws.{EndsAt, token_cut}
 use Rattle.justfile_round_trip.proofs.LiteralTexts.LexedModes.{Sign, sign, tok_at}
 use Rattle.justfile_round_trip.proofs.Values.TokenFacts.{Runs}
-use Rattle.justfile_chunks_grammar.specs.Chunks.{AreParts, Chunk, Parts, after_feed, chunks_of, first_chunk, later_chunk, moved, next_kind, text_of}
-use Rattle.justfile_chunks_grammar.proofs.OtherDedents.{IsEmptyDedent, NearToken}
+use Rattle.justfile_chunks.specs.Chunks.{AreParts, Chunk, Parts, after_feed, chunks_of, first_chunk, later_chunk, moved, next_kind, text_of}
+use Rattle.justfile_chunks.proofs.OtherDedents.{IsEmptyDedent, NearToken}
 use Rattle.justfile_chunks.proofs.ChunkTokens.{Borders, Later, NextPart, Split, chunks_by, closed, first_part, from_start, next_part, onto, some_text, whole_is}
 use Rattle.justfile_chunks.proofs.MovedPlaces.{AreMoved, IsMoved, Moves, Placed, after_text, all_moved, at_start, inside, last_moved, placed, placed_after, placed_front}
 use Rattle.justfile_chunks.proofs.SameModes.{NoneIsEof, signs}
@@ -157,7 +157,7 @@ module _ (text before rest : List ℕ) (t : Tok) (part : List Tok) (feed : EndsI
       h.0.line_is ∙ ap (λ n. line_of_offset text n) (h.0.offset_is ∙ omega arith) ∙ ap (λ x. line_of_offset x (length before + 0)) is
       ∙ ap (count_by is_line_feed) ((inside before (text_of (t ∷ part)) rest 0 some).is ∙ append-nil before)
 
-  pub by_first : Moves before (10 ∷ []) (t.offset - 1) (t.line - 1)
+  by_first : Moves before (10 ∷ []) (t.offset - 1) (t.line - 1)
   by_first =
       let moves = fed_moves before feed in
       subst (λ n. Moves before (10 ∷ []) n (t.line - 1)) (ap (λ n. n - 1) (sym h.0.offset_is))

@@ -11,7 +11,7 @@ use Rattle.justfile_model.specs.Lexing.Places.{column_at, is_line_feed, last_lin
 use Rattle.justfile_model.specs.Lexing.Tok.{Tok}
 use Rattle.justfile_model.proofs.Lexing.UnclosedLaws.{reverse_more}
 use Rattle.justfile_round_trip.proofs.LiteralTexts.LexedModes.{Sign, sign}
-use Rattle.justfile_chunks_grammar.specs.Chunks.{moved, text_of}
+use Rattle.justfile_chunks.specs.Chunks.{moved, text_of}
 use Rattle.justfile_chunks.proofs.FeedTexts.{run_same}
 use Rattle.justfile_chunks.proofs.SameModes.{signs}
 use Rattle.justfile_chunks.proofs.SameNext.{cons_parts}

@@ -7,9 +7,8 @@ use Rattle.justfile_model.specs.Grammars.Features.{Noted, over_noted}
 use Rattle.justfile_model.specs.Lexing.Tok.{Tok, tok}
 use Rattle.justfile_model.specs.Trees.Tree as tree
 use Rattle.justfile_model.specs.Trees.Tree.{ArgumentRules, Attribute, BodyLine, Bound, Content, Dependency, DependencyArgument, Entry, Expr, Exprs, Fragment, Header, Line, OptionName, OrderedItem, Parameter, Parts, Property, SettingValue, Tree, item_shape_of, lexeme, nothing, over_attribute, over_content, over_dependency, over_dependency_argument, over_entry, over_expr, over_exprs, over_fragment, over_header, over_item, over_line, over_option, over_parameter, over_parts, over_property, over_quoted, over_rules, over_setting_value, shape_of}
-use Rattle.justfile_chunks_grammar.specs.Chunks.{moved, moved_item}
-use Rattle.justfile_chunks.specs.JoinedTexts.{ParsedChunk, items_in_text}
-use Rattle.justfile_chunks.specs.Parts.{JoinedShapeLaw}
+use Rattle.justfile_chunks.specs.Chunks.{moved, moved_item}
+use Rattle.justfile_chunks.specs.Parts.{JoinedShapeLaw, ParsedChunk, items_in_text}
 
 module _ {X Y Z : Type 0} (f : Y → Z) (g : X → Y) (h : X → Z) (same : (x : X) → f (g x) ≡ h x) where
   map_twice : (xs : List X) → map f (map g xs) ≡ map h xs

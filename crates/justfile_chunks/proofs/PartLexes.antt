@@ -13,7 +13,7 @@ use Rattle.justfile_round_trip.proofs.LiteralTexts.LexedModes.{LexesIn, sign, to
 use Rattle.justfile_round_trip.proofs.Values.TokenFacts.{Runs}
 use Rattle.justfile_chunks.proofs.SplitRuns.{rest_utf8}
 use Rattle.justfile_chunks.proofs.PartSteps.{Uncut, kind_is, len_is, part_step}
-use Rattle.justfile_chunks_grammar.proofs.Colons.{IndentsHaveColons, NeedsColon, colon_after}
+use Rattle.justfile_chunks.proofs.Colons.{IndentsHaveColons, NeedsColon, colon_after}
 use Rattle.justfile_chunks.proofs.SameModes.{HaveColon, NoneIsEof, both_indent, colons_kept, signs, mode_past, same_after, some_same}
 use Rattle.justfile_chunks.proofs.SameNext.{SameFound, SameMode, same_next}
 use Rattle.justfile_chunks.proofs.TidyModes.{Fed, Tidy, fed_suffix, tidy_after}

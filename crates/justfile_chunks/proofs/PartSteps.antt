@@ -25,11 +25,11 @@ use Rattle.justfile_round_trip.proofs.LiteralTexts.FormatScans.{same_front}
 use Rattle.justfile_round_trip.proofs.LiteralTexts.LexedModes.{take_front}
 use Rattle.justfile_round_trip.proofs.LiteralTexts.Literals.{front_byte}
 use Rattle.justfile_round_trip.proofs.Values.TokenFacts.{Runs}
-use Rattle.justfile_chunks_grammar.specs.Chunks.{IsCut, IsCutAfter, ends_line, line_kind, next_kind}
+use Rattle.justfile_chunks.specs.Chunks.{IsCut, IsCutAfter, ends_line, line_kind, next_kind}
 use Rattle.justfile_chunks.proofs.CutModes.{next_fact, or_none}
 use Rattle.justfile_chunks.proofs.FeedTexts.{no_blank_feed, run_within}
 use Rattle.justfile_chunks.proofs.PartNext.{ClosesAlike, part_next}
-use Rattle.justfile_chunks.proofs.TidyModes.{Fed, LevelFact, Tidy, blanks_end}
+use Rattle.justfile_chunks.proofs.TidyModes.{EndsInFeed, Fed, LevelFact, Tidy, blanks_end}
 
 -- there is no cut inside the part
 abbrev pub Uncut : (earlier part later : List Tok) → Type 0
@@ -156,6 +156,11 @@ feed_utf8 w v u =
     (λ i. take (sym size i) (sym (append_assoc w (10 ∷ []) v) i)) ∙ take_front (w ++ (10 ∷ [])) v in
     subst IsUtf8 front (IsUtf8-take (w ++ (10 ∷ v)) (length w + 1) u
     (IsCharBoundary-after_ascii (w ++ (10 ∷ v)) (length w) u (omega (arith, length-append w (10 ∷ v))) low))
+
+-- a text that ends in a line feed, before another one
+pub fed_utf8 : (text rest : List ℕ) → EndsInFeed text → IsUtf8 (text ++ rest) → IsUtf8 text
+fed_utf8 text rest h u =
+    subst IsUtf8 (sym h.is) (feed_utf8 h.front rest (subst IsUtf8 (ap (λ x. x ++ rest) h.is ∙ append_assoc h.front (10 ∷ []) rest) u))
 
 -- ---- the part, and the text and the tokens after it
 

@@ -1,5 +1,5 @@
 -- Texts that were read up to a byte after them, and a text that is parsed from that byte on, joined.
-use Rattle.std.proofs.Common.{◌≡◌, ◌∙◌, ℕ, ◌+◌, ◌-◌, ◌<◌, false, List, [], ◌∷◌, ◌++◌, length, map, drop, refl, sym, ap, subst, arith, append-nil}
+use Rattle.std.proofs.Common.{◌≡◌, ◌∙◌, ℕ, ◌-◌, ◌<◌, false, cond, List, [], ◌∷◌, ◌++◌, length, map, drop, Some, refl, sym, ap, subst, arith, append-nil}
 use Rattle.std.specs.Prelude.{reverse}
 use Rattle.std.specs.List.{count_by}
 use Rattle.std.specs.Str.{IsUtf8}
@@ -14,8 +14,8 @@ use Rattle.justfile_model.specs.Lexing.BlankLines.{is_blank_or_line_end}
 use Rattle.justfile_model.specs.Lexing.Lexed.{Lexed}
 use Rattle.justfile_model.specs.Lexing.Modes.{mode, mode_after, start_mode}
 use Rattle.justfile_model.specs.Lexing.Places.{is_line_feed}
-use Rattle.justfile_model.specs.Lexing.SignificantTokens.{significant_tokens}
-use Rattle.justfile_model.specs.Lexing.Tok.{Tok, tok}
+use Rattle.justfile_model.specs.Lexing.SignificantTokens.{is_whitespace, significant_tokens}
+use Rattle.justfile_model.specs.Lexing.Tok.{Tok}
 use Rattle.justfile_model.specs.LiteralTexts.Literals.{over_literal}
 use Rattle.justfile_model.specs.Trees.LeafView.{views_tokens}
 use Rattle.justfile_model.specs.Trees.Tree as tree
@@ -23,23 +23,21 @@ use Rattle.justfile_model.specs.Trees.Tree.{Tree, lexeme}
 use Rattle.justfile_round_trip.specs.RoundTrip.{TextDerives}
 use Rattle.justfile_round_trip.proofs.LiteralTexts.FormatScans.{same_front}
 use Rattle.justfile_round_trip.proofs.Values.TokenFacts.{Runs}
-use Rattle.justfile_chunks_grammar.specs.Chunks.{Chunk, IsCut, moved, moved_item, next_kind, text_of}
-use Rattle.justfile_chunks_grammar.proofs.Colons.{IndentsHaveColons, colon_after}
-use Rattle.justfile_chunks_grammar.proofs.Moved.{moved_derives}
-use Rattle.justfile_chunks_grammar.proofs.OneCut.{TokensDeriveTree, cut_law, feed_law, tree_from, tree_to}
-use Rattle.justfile_chunks.specs.JoinedTexts.{chunk}
+use Rattle.justfile_chunks.specs.Chunks.{IsCut, moved, moved_item, next_kind, text_of}
+use Rattle.justfile_chunks.proofs.Colons.{IndentsHaveColons, colon_after}
+use Rattle.justfile_chunks.proofs.Moved.{moved_derives}
+use Rattle.justfile_chunks.proofs.OneCut.{TokensDeriveTree, cut_law, feed_law, tree_from, tree_to}
 use Rattle.justfile_chunks.specs.Parts.{ReadLaw}
 use Rattle.justfile_chunks.proofs.AllCuts.{onto_reverse}
-use Rattle.justfile_chunks.proofs.AskedNext.{as_asked, same_by_byte}
+use Rattle.justfile_chunks.proofs.AskedNext.{as_asked, cut_next, same_by_byte}
 use Rattle.justfile_chunks.proofs.ChunkTokens.{AfterCut, Later, after_cut, feed_first, from_start, onto, whole_is}
 use Rattle.justfile_chunks.proofs.ChunkTrees.{have_colons}
 use Rattle.justfile_chunks.proofs.JoinedNext.{is_dark}
-use Rattle.justfile_chunks.proofs.JoinedParts.{cut_before, elsewhere, fed_utf8, next_elsewhere}
-use Rattle.justfile_chunks.proofs.JoinedTokens.{Joined, joined_tokens}
-use Rattle.justfile_chunks.proofs.MovedChunks.{fed_moves, none_more}
+use Rattle.justfile_chunks.proofs.JoinedTokens.{joined_tokens}
+use Rattle.justfile_chunks.proofs.MovedChunks.{fed_moves}
 use Rattle.justfile_chunks.proofs.MovedPlaces.{Placed, placed, placed_front}
 use Rattle.justfile_chunks.proofs.PartLexes.{EndsEmpty, EndsOnce, ends_later}
-use Rattle.justfile_chunks.proofs.PartSteps.{kind_is, len_is}
+use Rattle.justfile_chunks.proofs.PartSteps.{fed_utf8, kind_is, len_is}
 use Rattle.justfile_chunks.proofs.SameNext.{SameMode}
 use Rattle.justfile_chunks.proofs.SplitRuns.{rest_utf8, runs_of, split_run}
 use Rattle.justfile_chunks.proofs.TidyModes.{feed_of}
@@ -112,11 +110,11 @@ module _ (conditions : Conditions) (ts : List Tok) (at end : Tok) (others : List
   abbrev line : ℕ
   line = count_by is_line_feed text - 1
 
-  abbrev here : Chunk
-  here = chunk [] offset line
+  abbrev move : Tok → Tok
+  move = moved offset line
 
-  abbrev there : Chunk
-  there = chunk [] 0 0
+  abbrev moved_rest : List Tok
+  moved_rest = map move us
 
   before : AfterCut [] ts (at ∷ end ∷ [])
   before =
@@ -131,38 +129,24 @@ module _ (conditions : Conditions) (ts : List Tok) (at end : Tok) (others : List
   after : FeedFirst (next ∷ others) feed us
   after = feed_before (next ∷ others) feed us right_utf8 right_lexed
 
-  tokens_are : Joined here there (text ++ (next ∷ others)) ts us
+  tokens_are : Lexed (text ++ (next ∷ others)) (ts ++ moved_rest)
   tokens_are =
-      joined_tokens here there next (is_dark next is_other) [] others ts (feed ∷ []) us (10 ∷ []) after.text_is utf8
+      joined_tokens offset line next (is_dark next is_other) [] others ts (feed ∷ []) us after.text_is utf8
       (feed_of text before.fed before.bytes) before.no_eof
       (subst (λ x. Runs start_mode (text ++ x) ts) at_text (split_run start_mode (text ++ text_of (at ∷ end ∷ [])) ts (at ∷ end ∷ []) before.run).first)
       before.ended (placed_front (text ++ (next ∷ [])) ts (at ∷ end ∷ []) 0 (placed (text ++ (next ∷ [])) (ts ++ (at ∷ end ∷ [])) lexed)) after.later
       (subst (λ k. IndentsHaveColons (colon_after k false) us) after.kind (have_colons conditions (feed ∷ us) right_derives).1)
-      (subst (λ x. Placed (10 ∷ x) 1 us) (sym after.text_is) after.places)
-      (fed_moves text (feed_of text before.fed before.bytes)) (record {
-        bytes = sym (none_more 1);
-        lines = sym (none_more (count_by is_line_feed (10 ∷ [])));
-        column = λ bs. refl;
-      })
+      (subst (λ x. Placed (10 ∷ x) 1 us) (sym after.text_is) after.places) (fed_moves text (feed_of text before.fed before.bytes))
 
-  abbrev move : Tok → Tok
-  move = moved offset line
-
-  abbrev moved_rest : List Tok
-  moved_rest = map move us
-
-  here_moved : (ts : List Tok) → map (elsewhere here there) ts ≡ map move ts
-  here_moved [] = refl
-  here_moved (t ∷ ts) = λ i. tok t.kind t.lexeme (offset + none_less t.offset i) (line + none_less t.line i) t.column ∷ here_moved ts i
-    where
-      none_less : (n : ℕ) → n - 0 ≡ n
-      none_less n = omega arith
+  next_moved : (us : List Tok) → next_kind us ≡ next_kind (map move us)
+  next_moved [] = refl
+  next_moved (u ∷ us) = ap (λ k. cond (is_whitespace u.kind) k (Some u.kind)) (next_moved us)
 
   cut_there : IsCut (reverse ts) moved_rest
   cut_there =
-      cut_before (reverse ts) (at ∷ end ∷ []) moved_rest
+      cut_next (reverse ts) (at ∷ end ∷ []) moved_rest
       (same_by_byte next (is_dark next is_other) (onto [] ts) (at ∷ end ∷ []) (feed ∷ []) us others before.later at_text after.later after.text_is
-      ∙ ap as_asked (next_elsewhere here there us ∙ ap next_kind (here_moved us))) cut
+      ∙ ap as_asked (next_moved us)) cut
 
   joined_derives : FileDerives conditions (significant_tokens (ts ++ moved_rest)) (left ++ drop 1 (map (moved_item offset line) right))
       (left_features ++ map (over_noted move) right_features)
@@ -190,7 +174,7 @@ module _ (conditions : Conditions) (ts : List Tok) (at end : Tok) (others : List
     utf8 = IsUtf8-append text (next ∷ others) (fed_utf8 text (next ∷ []) (feed_of text before.fed before.bytes) utf8)
         (subst IsUtf8 after.text_is after.later.utf8);
     tokens = ts ++ moved_rest;
-    lexed = subst (λ rest. Lexed (text ++ (next ∷ others)) (ts ++ rest)) (here_moved us) tokens_are.lexed;
+    lexed = tokens_are;
     file = joined_derives;
   }
 

@@ -10,7 +10,7 @@ use Rattle.justfile_model.specs.Lexing.Modes.{Mode, ends_in_line_feed, mode_afte
 use Rattle.justfile_model.specs.Lexing.Next.{NextToken}
 use Rattle.justfile_model.specs.Lexing.Tok.{Tok}
 use Rattle.justfile_round_trip.proofs.LiteralTexts.LexedModes.{Sign, sign}
-use Rattle.justfile_chunks_grammar.proofs.Colons.{NeedsColon, colon_after}
+use Rattle.justfile_chunks.proofs.Colons.{NeedsColon, colon_after}
 use Rattle.justfile_chunks.proofs.SameNext.{SameFound, SameMode, delimiters, found}
 
 tail_same : (os : List OpenDelimiter) → delimiters (tail_of os) ≡ tail_of (delimiters os)

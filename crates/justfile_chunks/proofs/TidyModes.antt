@@ -15,11 +15,11 @@ use Rattle.justfile_model.specs.Trees.Tree.{lexeme}
 use Rattle.justfile_model.proofs.Lexing.CutLemmas.{blank_no_newline, run_last}
 use Rattle.justfile_model.proofs.Lexing.NextLaws.{token_cut}
 use Rattle.justfile_round_trip.proofs.Values.TokenFacts.{Runs}
-use Rattle.justfile_chunks_grammar.specs.Chunks.{line_kind}
+use Rattle.justfile_chunks.specs.Chunks.{line_kind}
 use Rattle.justfile_chunks.proofs.CutModes.{NextFact, next_fact}
 use Rattle.justfile_chunks.proofs.SplitRuns.{rest_utf8}
-use Rattle.justfile_chunks_grammar.proofs.Colons.{NeedsColon}
-use Rattle.justfile_chunks_grammar.proofs.Passes.{line_with}
+use Rattle.justfile_chunks.proofs.Colons.{NeedsColon}
+use Rattle.justfile_chunks.proofs.Passes.{line_with}
 use Rattle.justfile_chunks.proofs.SameModes.{mode_past, or_true}
 
 -- ---- the levels and the line

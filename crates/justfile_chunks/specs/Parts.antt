@@ -1,9 +1,7 @@
 -- Parts of a text that are texts of their own: some chunks each, read one byte further than they go.
-use Rattle.std.specs.Prelude.{◌≡◌, ◌≢◌, ◌⊎◌, ℕ, ◌+◌, ◌-◌, false, List, [], ◌∷◌, ◌++◌, map, take, drop, length, reverse}
-use Rattle.std.specs.List.{AllByRecursion, count_by, flat_map}
+use Rattle.std.specs.Prelude.{◌≡◌, ℕ, ◌+◌, ◌-◌, false, List, [], ◌∷◌, ◌++◌, map, drop, length, reverse}
+use Rattle.std.specs.List.{count_by, flat_map}
 use Rattle.std.specs.Str.{IsUtf8}
-use Rattle.justfile_vocabulary.specs.declared.byte_class.ByteClass.TheVariants.{IdentifierStart}
-use Rattle.justfile_vocabulary.specs.ByteClass.{class_of}
 use Rattle.justfile_vocabulary.specs.ByteNames as byte
 use Rattle.justfile_model.specs.Grammars.Conditions.{Conditions}
 use Rattle.justfile_model.specs.Grammars.Features.{Noted, over_noted}
@@ -15,32 +13,33 @@ use Rattle.justfile_model.specs.Lexing.SignificantTokens.{significant_tokens}
 use Rattle.justfile_model.specs.Lexing.Tok.{Tok}
 use Rattle.justfile_model.specs.Trees.Tree.{Tree, shape_of}
 use Rattle.justfile_round_trip.specs.RoundTrip.{TextDerives}
-use Rattle.justfile_chunks_grammar.specs.Chunks.{Chunk, IsCut, joined, moved, moved_item, text_of}
-use Rattle.justfile_chunks.specs.JoinedTexts.{BeginsAtOnce, HasChunks, HasParsed, ParsedChunk, chunk, features_in_text, items_in_text, joined_parsed, joined_text}
+use Rattle.justfile_chunks.specs.Chunks.{Chunk, IsCut, joined, moved, moved_item, text_of}
 
--- A part was read one byte further: up to the first byte of what begins after it. Up to there its chunks are these, and each derives its tree.
-pub record IsPart (conditions : Conditions) (seen : List ℕ) (before : List ParsedChunk) (at : Chunk) : Type 0 where
-  pub has : HasChunks seen (map (λ p. p.chunk) before ++ (at ∷ []))
-  pub derive : AllByRecursion (λ p. TextDerives conditions p.chunk.text p.tree p.features) before
-  pub some : before ≢ []
+-- ---- chunks that are parsed
 
--- A part and a text are joined where that byte begins a chunk of the text. The joined text keeps what is parsed of both. It is JoinedTreeLaw with
--- a byte in common in place of a chunk.
-abbrev pub PartLaw : Type 0
-PartLaw = (conditions : Conditions) (left right : List ℕ) (before skipped after : List ParsedChunk) (at : Chunk) (from : ParsedChunk)
-    → IsPart conditions left before at → HasParsed conditions right (skipped ++ (from ∷ after)) → skipped ≢ []
-    → at.text ≡ take 2 from.chunk.text → BeginsAtOnce from.chunk
-    → HasParsed conditions (joined_text left at right from.chunk) (before ++ map (joined_parsed at from.chunk) (from ∷ after))
+-- the chunk with this text, at this offset and on this line
+abbrev pub chunk : List ℕ → (offset line : ℕ) → Chunk
+chunk text offset line = record { text = text; offset = offset; line = line }
 
--- An item, its attributes and a comment begin with such a byte: a letter or `_`, `@`, `#` or `[`.
-abbrev pub IsStart : ℕ → Type 0
-IsStart b = (class_of b ≡ IdentifierStart) ⊎ ((b ≡ byte.at) ⊎ ((b ≡ byte.number_sign) ⊎ (b ≡ byte.bracket_left)))
+-- After its line feed the chunk begins with a byte that is no blank and no line end.
+pub record BeginsAtOnce (c : Chunk) : Type 0 where
+  pub first : ℕ
+  pub others : List ℕ
+  pub are : c.text ≡ byte.line_feed ∷ (first ∷ others)
+  pub is_other : is_blank_or_line_end first ≡ false
 
--- The other way: what is before a later chunk that begins with such a byte, read up to that byte, is a part.
-abbrev pub FrontLaw : Type 0
-FrontLaw = (conditions : Conditions) (text : List ℕ) (before after : List ParsedChunk) (from : ParsedChunk)
-    → HasParsed conditions text (before ++ (from ∷ after)) → before ≢ [] → (begins : BeginsAtOnce from.chunk) → IsStart begins.first
-    → IsPart conditions (take (from.chunk.offset + 2) text) before (chunk (take 2 from.chunk.text) from.chunk.offset from.chunk.line)
+-- a chunk, and what it derives as a text of its own
+pub record ParsedChunk : Type 0 where
+  pub chunk : Chunk
+  pub tree : Tree
+  pub features : List (Noted Tok)
+
+-- the items and the features of a chunk, where they are in the text
+abbrev pub items_in_text : ParsedChunk → Tree
+items_in_text p = map (moved_item p.chunk.offset p.chunk.line) p.tree
+
+abbrev pub features_in_text : ParsedChunk → List (Noted Tok)
+features_in_text p = map (over_noted (moved p.chunk.offset p.chunk.line)) p.features
 
 -- ---- parts that are read
 

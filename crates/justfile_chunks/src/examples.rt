@@ -1,11 +1,57 @@
-//! Examples of texts that are cut twice in a row, and of two texts that are joined, checked by
-//! computation.
-ghost use Rattle.std.specs.Prelude.{◌≡◌, [], ◌∷◌, codes};
-ghost use Rattle.justfile_vocabulary.specs.declared.token_kind.TokenKind.TheVariants.{Colon, Comment, Dedent, Eof, Eol, Identifier, Indent, Text};
+//! Examples of texts in parts, checked by computation.
+ghost use Rattle.std.specs.Prelude.{[], ◌∷◌, codes};
+ghost use Rattle.justfile_vocabulary.specs.declared.token_kind.TokenKind.TheVariants.{BracketL, BracketR, Colon, ColonEquals, Comment, Dedent, Eof, Eol, Identifier, Indent, StringToken, Text, Whitespace};
 ghost use Rattle.justfile_model.specs.Lexing.Lexed.{Lexed};
 ghost use Rattle.justfile_model.specs.Lexing.Tok.{tok};
-ghost use Rattle.justfile_chunks_grammar.specs.Chunks.{AreParts};
-ghost use Rattle.justfile_chunks.specs.JoinedTexts.{HasChunks, chunk, joined_text};
+ghost use Rattle.justfile_chunks.specs.Chunks.{AreParts};
+
+/// A recipe with a doc and a body, a blank line, and an assignment: the recipe is a part up to its
+/// `Dedent`, and the blank line is one of its own.
+pub fn recipe_and_assignment()
+    ensures lexed { Lexed (codes "# d\nfoo:\n  a\n\nx:='y'\n")
+        (tok Comment (codes "# d") 0 0 0 ∷ tok Eol (codes "\n") 3 0 3 ∷
+        tok Identifier (codes "foo") 4 1 0 ∷ tok Colon (codes ":") 7 1 3 ∷ tok Eol (codes "\n") 8 1 4 ∷
+        tok Indent (codes "  ") 9 2 0 ∷ tok Text (codes "a") 11 2 2 ∷ tok Eol (codes "\n") 12 2 3 ∷ tok Dedent [] 13 3 0 ∷
+        tok Eol (codes "\n") 13 3 0 ∷
+        tok Identifier (codes "x") 14 4 0 ∷ tok ColonEquals (codes ":=") 15 4 1 ∷ tok StringToken (codes "'y'") 17 4 3 ∷
+        tok Eol (codes "\n") 20 4 6 ∷ tok Eof [] 21 4 7 ∷ []) }
+    ensures parts { AreParts
+        (tok Comment (codes "# d") 0 0 0 ∷ tok Eol (codes "\n") 3 0 3 ∷
+        tok Identifier (codes "foo") 4 1 0 ∷ tok Colon (codes ":") 7 1 3 ∷ tok Eol (codes "\n") 8 1 4 ∷
+        tok Indent (codes "  ") 9 2 0 ∷ tok Text (codes "a") 11 2 2 ∷ tok Eol (codes "\n") 12 2 3 ∷ tok Dedent [] 13 3 0 ∷
+        tok Eol (codes "\n") 13 3 0 ∷
+        tok Identifier (codes "x") 14 4 0 ∷ tok ColonEquals (codes ":=") 15 4 1 ∷ tok StringToken (codes "'y'") 17 4 3 ∷
+        tok Eol (codes "\n") 20 4 6 ∷ tok Eof [] 21 4 7 ∷ [])
+        ((tok Comment (codes "# d") 0 0 0 ∷ tok Eol (codes "\n") 3 0 3 ∷
+        tok Identifier (codes "foo") 4 1 0 ∷ tok Colon (codes ":") 7 1 3 ∷ tok Eol (codes "\n") 8 1 4 ∷
+        tok Indent (codes "  ") 9 2 0 ∷ tok Text (codes "a") 11 2 2 ∷ tok Eol (codes "\n") 12 2 3 ∷ tok Dedent [] 13 3 0 ∷ []) ∷
+        (tok Eol (codes "\n") 13 3 0 ∷ []) ∷
+        (tok Identifier (codes "x") 14 4 0 ∷ tok ColonEquals (codes ":=") 15 4 1 ∷ tok StringToken (codes "'y'") 17 4 3 ∷
+        tok Eol (codes "\n") 20 4 6 ∷ tok Eof [] 21 4 7 ∷ []) ∷ []) }
+{}
+
+/// Attributes, a comment before an item, and a comment before a blank line: only the last one is a
+/// part of its own, without the blank line.
+pub fn attributes_and_comments()
+    ensures lexed { Lexed (codes "[a]\nb:\n# c\n\n# d\ne:\n")
+        (tok BracketL (codes "[") 0 0 0 ∷ tok Identifier (codes "a") 1 0 1 ∷ tok BracketR (codes "]") 2 0 2 ∷ tok Eol (codes "\n") 3 0 3 ∷
+        tok Identifier (codes "b") 4 1 0 ∷ tok Colon (codes ":") 5 1 1 ∷ tok Eol (codes "\n") 6 1 2 ∷
+        tok Comment (codes "# c") 7 2 0 ∷ tok Eol (codes "\n") 10 2 3 ∷ tok Eol (codes "\n") 11 3 0 ∷
+        tok Comment (codes "# d") 12 4 0 ∷ tok Eol (codes "\n") 15 4 3 ∷ tok Identifier (codes "e") 16 5 0 ∷ tok Colon (codes ":") 17 5 1 ∷
+        tok Eol (codes "\n") 18 5 2 ∷ tok Eof [] 19 5 3 ∷ []) }
+    ensures parts { AreParts
+        (tok BracketL (codes "[") 0 0 0 ∷ tok Identifier (codes "a") 1 0 1 ∷ tok BracketR (codes "]") 2 0 2 ∷ tok Eol (codes "\n") 3 0 3 ∷
+        tok Identifier (codes "b") 4 1 0 ∷ tok Colon (codes ":") 5 1 1 ∷ tok Eol (codes "\n") 6 1 2 ∷
+        tok Comment (codes "# c") 7 2 0 ∷ tok Eol (codes "\n") 10 2 3 ∷ tok Eol (codes "\n") 11 3 0 ∷
+        tok Comment (codes "# d") 12 4 0 ∷ tok Eol (codes "\n") 15 4 3 ∷ tok Identifier (codes "e") 16 5 0 ∷ tok Colon (codes ":") 17 5 1 ∷
+        tok Eol (codes "\n") 18 5 2 ∷ tok Eof [] 19 5 3 ∷ [])
+        ((tok BracketL (codes "[") 0 0 0 ∷ tok Identifier (codes "a") 1 0 1 ∷ tok BracketR (codes "]") 2 0 2 ∷ tok Eol (codes "\n") 3 0 3 ∷
+        tok Identifier (codes "b") 4 1 0 ∷ tok Colon (codes ":") 5 1 1 ∷ tok Eol (codes "\n") 6 1 2 ∷ []) ∷
+        (tok Comment (codes "# c") 7 2 0 ∷ tok Eol (codes "\n") 10 2 3 ∷ []) ∷
+        (tok Eol (codes "\n") 11 3 0 ∷ []) ∷
+        (tok Comment (codes "# d") 12 4 0 ∷ tok Eol (codes "\n") 15 4 3 ∷ tok Identifier (codes "e") 16 5 0 ∷ tok Colon (codes ":") 17 5 1 ∷
+        tok Eol (codes "\n") 18 5 2 ∷ tok Eof [] 19 5 3 ∷ []) ∷ []) }
+{}
 
 /// A text is cut after a body and again after the blank line that follows. What is before the
 /// second cut is no text with these tokens: at the end of a text a blank line is the body's, and
@@ -29,22 +75,4 @@ pub fn blank_line_after_body()
         (tok Identifier (codes "a") 0 0 0 ∷ tok Colon (codes ":") 1 0 1 ∷ tok Eol (codes "\n") 2 0 2 ∷
         tok Indent (codes " ") 3 1 0 ∷ tok Text (codes "b") 4 1 1 ∷ tok Eol (codes "\n") 5 1 2 ∷
         tok Eol (codes "\n") 6 2 0 ∷ tok Dedent [] 7 2 1 ∷ tok Eof [] 7 2 1 ∷ []) }
-{}
-
-/// Two texts are joined at a recipe that both have, the one after a body and a blank line, the other
-/// after a line feed: up to the recipe the chunks are the first one's, and from it on the second
-/// one's. At a blank line they can't be joined so: if the text ends with it, it is the body's.
-/// Read up to the first byte of the recipe, the first text has the same chunks before it.
-pub fn joined_at_a_recipe()
-    ensures left { HasChunks (codes "a:\n b\n\nc:\n")
-        (chunk (codes "a:\n b\n") 0 0 ∷ chunk (codes "\n\n") 5 1 ∷ chunk (codes "\nc:\n") 6 2 ∷ []) }
-    ensures further { HasChunks (codes "a:\n b\n\nc")
-        (chunk (codes "a:\n b\n") 0 0 ∷ chunk (codes "\n\n") 5 1 ∷ chunk (codes "\nc") 6 2 ∷ []) }
-    ensures right { HasChunks (codes "\nc:\nd:\n")
-        (chunk (codes "\n") 0 0 ∷ chunk (codes "\nc:\n") 0 0 ∷ chunk (codes "\nd:\n") 3 1 ∷ []) }
-    ensures text { joined_text (codes "a:\n b\n\nc:\n") (chunk (codes "\nc:\n") 6 2)
-        (codes "\nc:\nd:\n") (chunk (codes "\nc:\n") 0 0) ≡ codes "a:\n b\n\nc:\nd:\n" }
-    ensures joined { HasChunks (codes "a:\n b\n\nc:\nd:\n")
-        (chunk (codes "a:\n b\n") 0 0 ∷ chunk (codes "\n\n") 5 1 ∷ chunk (codes "\nc:\n") 6 2 ∷
-        chunk (codes "\nd:\n") 9 3 ∷ []) }
 {}

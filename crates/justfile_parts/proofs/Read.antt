@@ -19,7 +19,7 @@ use Rattle.justfile_model.specs.Readers.TreeReader as model
 use Rattle.justfile_model.specs.Trees.Tree.{lexeme}
 use Rattle.justfile_ast.specs.Ast.{features_of, tree_of}
 use Rattle.justfile_ast.specs.declared.ast.Ast.{Ast}
-use Rattle.justfile_chunks_grammar.specs.Chunks.{text_of}
+use Rattle.justfile_chunks.specs.Chunks.{text_of}
 use Rattle.justfile_chunks.proofs.ChunkTokens.{whole_is}
 use Rattle.justfile_lex.specs.SignificantTable.{IsTableOf}
 use Rattle.justfile_lex.proofs.TableLemmas.{table_tokens_among}

@@ -9,7 +9,7 @@ use Rattle.justfile_token.specs.Slice.{slice_of}
 use Rattle.justfile_model.specs.Lexing.Lexed.{Lexed}
 use Rattle.justfile_model.specs.Lexing.Modes.{mode}
 use Rattle.justfile_model.specs.Lexing.Tok.{Tok, tok_of}
-use Rattle.justfile_chunks_grammar.specs.Chunks.{AreParts, IsCut, Parts, line_kind, next_kind}
+use Rattle.justfile_chunks.specs.Chunks.{AreParts, IsCut, Parts, line_kind, next_kind}
 use Rattle.justfile_spans.specs.declared.span.Span.{Span}
 use Rattle.justfile_spans.specs.Cuts.{depth_after, is_cut, line_after}
 use Rattle.justfile_spans.specs.Spans.{AreChunks, end_after, span}

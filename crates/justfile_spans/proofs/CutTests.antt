@@ -6,7 +6,7 @@ use Rattle.justfile_vocabulary.specs.declared.token_kind.TokenKind.{TokenKind}
 use Rattle.justfile_vocabulary.specs.declared.token_kind.TokenKind.TheVariants.{BracketL, Comment, Dedent, Eof, Eol, Indent}
 use Rattle.justfile_model.specs.Lexing.Modes.{Mode, mode, mode_after, tail_of}
 use Rattle.justfile_model.specs.Lexing.Tok.{Tok}
-use Rattle.justfile_chunks_grammar.specs.Chunks.{IsCutAfter, ends_line, first_or, is_ignored, line_kind, next_kind}
+use Rattle.justfile_chunks.specs.Chunks.{IsCutAfter, ends_line, first_or, is_ignored, line_kind, next_kind}
 use Rattle.justfile_spans.specs.Cuts.{begins_no_item, depth_after, goes_on, is_cut, joins, line_after}
 
 -- ---- the depth is the number of levels

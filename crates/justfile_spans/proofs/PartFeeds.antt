@@ -3,7 +3,7 @@ use Rattle.std.proofs.Common.{ℕ, List, [], ◌∷◌}
 use Rattle.std.specs.Str.{IsUtf8}
 use Rattle.justfile_model.specs.Lexing.Lexed.{Lexed}
 use Rattle.justfile_model.specs.Lexing.Tok.{Tok}
-use Rattle.justfile_chunks_grammar.specs.Chunks.{AreParts, Parts, text_of}
+use Rattle.justfile_chunks.specs.Chunks.{AreParts, Parts, text_of}
 use Rattle.justfile_chunks.proofs.ChunkTokens.{Later, first_part, from_start, next_part, onto}
 use Rattle.justfile_chunks.proofs.TidyModes.{EndsInFeed}
 

@@ -11,7 +11,7 @@ use Rattle.justfile_token.specs.Slice.{slice_of}
 use Rattle.justfile_model.specs.Lexing.Lexed.{Lexed}
 use Rattle.justfile_model.specs.Lexing.Tok.{Tok}
 use Rattle.justfile_model.specs.Trees.Tree.{lexeme}
-use Rattle.justfile_chunks_grammar.specs.Chunks.{AreParts, Parts, after_feed, chunk_texts, text_of}
+use Rattle.justfile_chunks.specs.Chunks.{AreParts, Parts, after_feed, chunk_texts, text_of}
 use Rattle.justfile_chunks.proofs.ChunkTokens.{whole_is}
 use Rattle.justfile_chunks.proofs.MovedPlaces.{Placed, placed, placed_after}
 use Rattle.justfile_chunks.proofs.TidyModes.{EndsInFeed, fed_more}

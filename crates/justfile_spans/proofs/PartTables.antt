@@ -12,7 +12,7 @@ use Rattle.justfile_model.specs.Lexing.Lexed.{Lexed}
 use Rattle.justfile_model.specs.Lexing.Modes.{mode}
 use Rattle.justfile_model.specs.Lexing.SignificantTokens.{SignificantToken, TableToken, is_whitespace, significant_from, significant_of, significant_tokens}
 use Rattle.justfile_model.specs.Lexing.Tok.{Tok, tok_of}
-use Rattle.justfile_chunks_grammar.specs.Chunks.{IsCut, IsCutAfter, line_kind, next_kind}
+use Rattle.justfile_chunks.specs.Chunks.{IsCut, IsCutAfter, line_kind, next_kind}
 use Rattle.justfile_chunks.proofs.AllCuts.{onto_reverse}
 use Rattle.justfile_chunks.proofs.ChunkTokens.{from_start, onto}
 use Rattle.justfile_chunks.proofs.PartLexes.{EndsEmpty, EndsOnce}

@@ -3,7 +3,7 @@ use Rattle.std.specs.Prelude.{ℕ, ◌+◌, ◌-◌, Bool, true, false, not, con
 use Rattle.std.specs.Option.{option_or}
 use Rattle.justfile_vocabulary.specs.declared.token_kind.TokenKind.{TokenKind}
 use Rattle.justfile_vocabulary.specs.declared.token_kind.TokenKind.TheVariants.{BracketL, Comment, Dedent, Eof, Eol, Indent}
-use Rattle.justfile_chunks_grammar.specs.Chunks.{ends_line, is_ignored}
+use Rattle.justfile_chunks.specs.Chunks.{ends_line, is_ignored}
 
 -- the number of open levels after a token of this kind
 abbrev pub depth_after : TokenKind → ℕ → ℕ

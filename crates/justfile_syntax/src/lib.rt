@@ -162,7 +162,7 @@ pub mod laws {
     pub use justfile_ast::laws::same_numbers;
     pub use justfile_attribute_set::laws::sets_in_order;
     pub use justfile_canonical::laws::formatted_texts;
-    pub use justfile_chunks::{chunks_derive, chunks_derive_trees, parts_join, texts_join};
+    pub use justfile_chunks::{chunks_derive, chunks_derive_trees, parts_join};
     pub use justfile_expression::laws::{
         expressions_ordered, literals_ordered, namepaths_ordered, names_ordered, tokens_ordered,
     };

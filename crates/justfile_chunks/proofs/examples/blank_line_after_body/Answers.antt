@@ -8,7 +8,7 @@ use Rattle.justfile_model.specs.Lexing.Next.{body_token, fixed_token, token_by_c
 use Rattle.justfile_model.specs.Lexing.Places.{column_at, last_line_start, line_of_offset}
 use Rattle.justfile_model.proofs.Lexing.AnswerLaws.{at, fault_of, is_eof, span_of}
 use Rattle.justfile_model.proofs.Lexing.Computed.{answer, computed}
-use Rattle.justfile_chunks_grammar.proofs.CutUp.{cut_up}
+use Rattle.justfile_chunks.proofs.CutUp.{cut_up}
 use Rattle.justfile_chunks.proofs.examples.blank_line_after_body.Goals as goal
 
 pub returns : goal.returns

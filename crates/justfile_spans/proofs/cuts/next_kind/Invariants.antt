@@ -1,6 +1,6 @@
 use Rattle.std.proofs.Common.{◌≡◌, drop, map}
 use Rattle.justfile_model.specs.Lexing.Tok.{tok_of}
-use Rattle.justfile_chunks_grammar.specs.Chunks.{next_kind}
+use Rattle.justfile_chunks.specs.Chunks.{next_kind}
 use Rattle.justfile_spans.proofs.cuts.next_kind.Given as goal
 
 abbrev pub invariant-loop-token : goal.invariant-loop-token

@@ -2,7 +2,7 @@ use Rattle.std.proofs.Common.{◌≡◌, ◌+◌, List, [], ◌∷◌, ◌++◌,
 use Rattle.std.specs.declared.alloc.Global.{Global}
 use Rattle.justfile_token.specs.declared.token.Token.{Token}
 use Rattle.justfile_model.specs.Lexing.Tok.{tok_of}
-use Rattle.justfile_chunks_grammar.specs.Chunks.{next_kind}
+use Rattle.justfile_chunks.specs.Chunks.{next_kind}
 use Rattle.justfile_spans.specs.declared.span.Span.{Span}
 use Rattle.justfile_spans.specs.Cuts.{is_cut}
 use Rattle.justfile_spans.specs.Spans.{span}

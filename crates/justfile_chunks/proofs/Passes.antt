@@ -13,11 +13,11 @@ use Rattle.justfile_model.specs.Grammars.Headers.{HeaderOf}
 use Rattle.justfile_model.specs.Lexing.SignificantTokens.{SignificantToken}
 use Rattle.justfile_model.specs.Lexing.Tok.{Tok}
 use Rattle.justfile_model.specs.Trees.Tree.{Content, Header, WrittenAttribute, WrittenItem}
-use Rattle.justfile_chunks_grammar.specs.Chunks.{ends_line, first_or, is_ignored, line_kind, next_kind}
-use Rattle.justfile_chunks_grammar.proofs.AgainAttributes as again_attributes
-use Rattle.justfile_chunks_grammar.proofs.AgainHeaders as again_headers
-use Rattle.justfile_chunks_grammar.proofs.AgainItems as again_items
-use Rattle.justfile_chunks_grammar.proofs.Over.{Ahead, Over, is_inside, is_quiet, not_name, one, same, step}
+use Rattle.justfile_chunks.specs.Chunks.{ends_line, first_or, is_ignored, line_kind, next_kind}
+use Rattle.justfile_chunks.proofs.AgainAttributes as again_attributes
+use Rattle.justfile_chunks.proofs.AgainHeaders as again_headers
+use Rattle.justfile_chunks.proofs.AgainItems as again_items
+use Rattle.justfile_chunks.proofs.Over.{Ahead, Over, is_inside, is_quiet, not_name, one, same, step}
 
 -- the tokens themselves
 abbrev pub bare : Tokens → List Tok

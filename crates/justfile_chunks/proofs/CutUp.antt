@@ -7,8 +7,8 @@ use Rattle.justfile_vocabulary.specs.declared.token_kind.TokenKind.TheVariants a
 use Rattle.justfile_model.specs.Lexing.Modes.{is_empty, mode}
 use Rattle.justfile_model.specs.Lexing.Tok.{Tok}
 use Rattle.justfile_model.proofs.Lists.Binds.{some_back}
-use Rattle.justfile_chunks_grammar.specs.Chunks.{IsCutAfter, Parts, cut, ends_line, last, line_kind, next_kind, uncut}
-use Rattle.justfile_chunks_grammar.proofs.Passes.{clash}
+use Rattle.justfile_chunks.specs.Chunks.{IsCutAfter, Parts, cut, ends_line, last, line_kind, next_kind, uncut}
+use Rattle.justfile_chunks.proofs.Passes.{clash}
 
 abbrev Decided : Type 0 → Type 0
 Decided P = P ⊎ (P → ⊥)

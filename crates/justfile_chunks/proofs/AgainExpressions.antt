@@ -9,7 +9,7 @@ use Rattle.justfile_model.specs.Grammars.Features.{Noted, uncompared}
 use Rattle.justfile_model.specs.Lexing.SignificantTokens.{SignificantToken}
 use Rattle.justfile_model.specs.Lexing.Tok.{Tok}
 use Rattle.justfile_model.specs.Trees.Tree.{Expr, Exprs, Parts}
-use Rattle.justfile_chunks_grammar.proofs.Over.{Again, Ahead, Over, again, enter, is_quiet, more, next, no_word, not_compared, not_joined, one, past, same, step, two, unmarked}
+use Rattle.justfile_chunks.proofs.Over.{Again, Ahead, Over, again, enter, is_quiet, more, next, no_word, not_compared, not_joined, one, past, same, step, two, unmarked}
 
 operator_quiet : (by : ConditionalOperator) → is_quiet (operator_kind by) ≡ true
 operator_quiet Equality = refl

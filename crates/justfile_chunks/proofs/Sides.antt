@@ -19,14 +19,14 @@ use Rattle.justfile_model.specs.Trees.Tree.{OrderedItem, WrittenItem}
 use Rattle.justfile_model.proofs.Derivations.CookedTexts.{literals_append}
 use Rattle.justfile_model.proofs.Lists.Binds.{some_back}
 use Rattle.justfile_model.proofs.Meanings.Ordered.{meanings_of, undocumented_of}
-use Rattle.justfile_chunks_grammar.specs.Chunks.{next_kind}
-use Rattle.justfile_chunks_grammar.proofs.AlikeItems.{alike_after, alike_apart, alike_of, before_next_is}
-use Rattle.justfile_chunks_grammar.proofs.DocsAppend.{before_next, documented_append}
-use Rattle.justfile_chunks_grammar.proofs.ItemsAppend.{cooked_apart, cooked_append, features_append, unbroken_apart, unbroken_append, undocumented_apart, undocumented_append}
-use Rattle.justfile_chunks_grammar.proofs.ItemsFeatures.{file_features}
-use Rattle.justfile_chunks_grammar.proofs.Joins.{after_end, begins_none, file_apart, file_end, file_joined, file_split}
-use Rattle.justfile_chunks_grammar.proofs.Over.{is_quiet, other_end}
-use Rattle.justfile_chunks_grammar.proofs.Passes.{At, CutHere, FirstQuiet, bare, clash, here, later}
+use Rattle.justfile_chunks.specs.Chunks.{next_kind}
+use Rattle.justfile_chunks.proofs.AlikeItems.{alike_after, alike_apart, alike_of, before_next_is}
+use Rattle.justfile_chunks.proofs.DocsAppend.{before_next, documented_append}
+use Rattle.justfile_chunks.proofs.ItemsAppend.{cooked_apart, cooked_append, features_append, unbroken_apart, unbroken_append, undocumented_apart, undocumented_append}
+use Rattle.justfile_chunks.proofs.ItemsFeatures.{file_features}
+use Rattle.justfile_chunks.proofs.Joins.{after_end, begins_none, file_apart, file_end, file_joined, file_split}
+use Rattle.justfile_chunks.proofs.Over.{is_quiet, other_end}
+use Rattle.justfile_chunks.proofs.Passes.{At, CutHere, FirstQuiet, bare, clash, here, later}
 
 -- ---- tokens before others
 

@@ -11,9 +11,9 @@ use Rattle.justfile_model.specs.Grammars.Settings.{SettingForm}
 use Rattle.justfile_model.specs.Lexing.SignificantTokens.{SignificantToken}
 use Rattle.justfile_model.specs.Lexing.Tok.{Tok}
 use Rattle.justfile_model.specs.Trees.Tree.{BodyLine, Content, Fragment, Line, Quoted, SettingValue}
-use Rattle.justfile_chunks_grammar.proofs.AgainExpressions as expressions
-use Rattle.justfile_chunks_grammar.proofs.AgainHeaders as headers
-use Rattle.justfile_chunks_grammar.proofs.Over.{Again, Ahead, Over, again, any_of, ends_line, is_any, is_inside, is_quiet, more, no_path, not_name, one, past, quiet_inside, same, step, two, widened}
+use Rattle.justfile_chunks.proofs.AgainExpressions as expressions
+use Rattle.justfile_chunks.proofs.AgainHeaders as headers
+use Rattle.justfile_chunks.proofs.Over.{Again, Ahead, Over, again, any_of, ends_line, is_any, is_inside, is_quiet, more, no_path, not_name, one, past, quiet_inside, same, step, two, widened}
 
 module _ {A : Type 0} (leaf : Tok → A) where
   file_path : {p : Quoted A} {ts x y : Tokens} → FilePath leaf p ts x → Ahead x y → Again is_quiet x y (λ r. FilePath leaf p r y) ts

@@ -11,13 +11,13 @@ use Rattle.justfile_model.specs.Lexing.SignificantTokens.{SignificantToken, is_w
 use Rattle.justfile_model.specs.Lexing.Tok.{Tok}
 use Rattle.justfile_model.specs.Trees.Tree.{BodyLine, Content, Fragment, WrittenItem}
 use Rattle.justfile_model.proofs.Derivations.CarryExpressions.{Pairs, cons, nil, pairs_before}
-use Rattle.justfile_chunks_grammar.proofs.AgainAttributes as again_attributes
-use Rattle.justfile_chunks_grammar.proofs.AgainExpressions as again_expressions
-use Rattle.justfile_chunks_grammar.proofs.AgainHeaders as again_headers
-use Rattle.justfile_chunks_grammar.proofs.AgainItems as again_items
-use Rattle.justfile_chunks_grammar.proofs.CutTokens.{significant}
-use Rattle.justfile_chunks_grammar.proofs.Over.{Again, Ahead, Front, Over, is_inside, is_quiet, not_name, one, other_end, same, step}
-use Rattle.justfile_chunks_grammar.proofs.Passes.{clash, self_ahead}
+use Rattle.justfile_chunks.proofs.AgainAttributes as again_attributes
+use Rattle.justfile_chunks.proofs.AgainExpressions as again_expressions
+use Rattle.justfile_chunks.proofs.AgainHeaders as again_headers
+use Rattle.justfile_chunks.proofs.AgainItems as again_items
+use Rattle.justfile_chunks.proofs.CutTokens.{significant}
+use Rattle.justfile_chunks.proofs.Over.{Again, Ahead, Front, Over, is_inside, is_quiet, not_name, one, other_end, same, step}
+use Rattle.justfile_chunks.proofs.Passes.{clash, self_ahead}
 
 abbrev is_dedent : TokenKind → Bool
 is_dedent kinds.Dedent = true

@@ -13,11 +13,11 @@ use Rattle.justfile_model.specs.Grammars.Headers.{HeaderOf, Parameters}
 use Rattle.justfile_model.specs.Lexing.SignificantTokens.{SignificantToken, is_whitespace, significant_from}
 use Rattle.justfile_model.specs.Lexing.Tok.{Tok}
 use Rattle.justfile_model.specs.Trees.Tree.{Content, Header, Parameter, WrittenAttribute, WrittenItem}
-use Rattle.justfile_chunks_grammar.proofs.AgainAttributes as again_attributes
-use Rattle.justfile_chunks_grammar.proofs.AgainHeaders as again_headers
-use Rattle.justfile_chunks_grammar.proofs.AgainItems as again_items
-use Rattle.justfile_chunks_grammar.proofs.Over.{Ahead, Over, is_inside, is_quiet, more, same, step}
-use Rattle.justfile_chunks_grammar.proofs.Passes.{bare, self_ahead}
+use Rattle.justfile_chunks.proofs.AgainAttributes as again_attributes
+use Rattle.justfile_chunks.proofs.AgainHeaders as again_headers
+use Rattle.justfile_chunks.proofs.AgainItems as again_items
+use Rattle.justfile_chunks.proofs.Over.{Ahead, Over, is_inside, is_quiet, more, same, step}
+use Rattle.justfile_chunks.proofs.Passes.{bare, self_ahead}
 
 -- a colon came, and no dedent since
 abbrev pub colon_after : TokenKind → Bool → Bool

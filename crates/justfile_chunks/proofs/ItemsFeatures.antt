@@ -5,7 +5,7 @@ use Rattle.justfile_model.specs.Grammars.Grammar as g
 use Rattle.justfile_model.specs.Grammars.Grammar.{File, ItemRest, Items, LineEnd, TokenProjection}
 use Rattle.justfile_model.specs.Lexing.SignificantTokens.{SignificantToken}
 use Rattle.justfile_model.specs.Trees.Tree.{WrittenItem}
-use Rattle.justfile_chunks_grammar.proofs.ItemsAppend.{AreFeaturesOf}
+use Rattle.justfile_chunks.proofs.ItemsAppend.{AreFeaturesOf}
 
 module _ {A B C S : Type 0} (projection : TokenProjection A B C S) (MayEnter : ℕ → Option SignificantToken → Type 0) where
   mutual

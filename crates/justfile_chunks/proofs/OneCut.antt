@@ -18,15 +18,15 @@ use Rattle.justfile_model.specs.LiteralTexts.Literals.{Literal, over_literal}
 use Rattle.justfile_model.specs.Trees.LeafView.{LeafView, views_lexemes, views_tokens}
 use Rattle.justfile_model.specs.Trees.Tree as tree
 use Rattle.justfile_model.specs.Trees.Tree.{OrderedItem, Shape, Tree, WrittenItem, lexeme}
-use Rattle.justfile_chunks_grammar.specs.Chunks.{IsCut, IsCutAfter, ShapeFeatures, ends_line}
-use Rattle.justfile_chunks_grammar.proofs.AgainAttributes as again_attributes
-use Rattle.justfile_chunks_grammar.proofs.AgainItems as again_items
-use Rattle.justfile_chunks_grammar.proofs.Colons.{IndentsHaveColons, file_colons, with_whitespace}
-use Rattle.justfile_chunks_grammar.proofs.CutTokens.{cut_here, ends_dark, significant, significant_append}
-use Rattle.justfile_chunks_grammar.proofs.Joins.{after_end}
-use Rattle.justfile_chunks_grammar.proofs.Over.{Over, same, step}
-use Rattle.justfile_chunks_grammar.proofs.Passes.{CutHere, clash, self_ahead}
-use Rattle.justfile_chunks_grammar.proofs.Sides.{Derives, Sides, behind, cut_joined, cut_split, past_end, with_end, without_end}
+use Rattle.justfile_chunks.specs.Chunks.{IsCut, IsCutAfter, ShapeFeatures, ends_line}
+use Rattle.justfile_chunks.proofs.AgainAttributes as again_attributes
+use Rattle.justfile_chunks.proofs.AgainItems as again_items
+use Rattle.justfile_chunks.proofs.Colons.{IndentsHaveColons, file_colons, with_whitespace}
+use Rattle.justfile_chunks.proofs.CutTokens.{cut_here, ends_dark, significant, significant_append}
+use Rattle.justfile_chunks.proofs.Joins.{after_end}
+use Rattle.justfile_chunks.proofs.Over.{Over, same, step}
+use Rattle.justfile_chunks.proofs.Passes.{CutHere, clash, self_ahead}
+use Rattle.justfile_chunks.proofs.Sides.{Derives, Sides, behind, cut_joined, cut_split, past_end, with_end, without_end}
 
 -- ---- the last token
 

@@ -8,9 +8,9 @@ use Rattle.justfile_model.specs.Lexing.Modes.{Mode, mode, mode_after}
 use Rattle.justfile_model.specs.Lexing.SignificantTokens.{SignificantToken, is_whitespace, significant_from}
 use Rattle.justfile_model.specs.Lexing.Tok.{Tok}
 use Rattle.justfile_model.proofs.Lexing.UnclosedLaws.{reverse_more}
-use Rattle.justfile_chunks_grammar.specs.Chunks.{IsCutAfter, ends_line, line_kind, next_kind}
-use Rattle.justfile_chunks_grammar.proofs.Passes.{CutAfter, CutHere, bare, in_body, line_with, open_after}
-use Rattle.justfile_chunks_grammar.proofs.Sides.{behind}
+use Rattle.justfile_chunks.specs.Chunks.{IsCutAfter, ends_line, line_kind, next_kind}
+use Rattle.justfile_chunks.proofs.Passes.{CutAfter, CutHere, bare, in_body, line_with, open_after}
+use Rattle.justfile_chunks.proofs.Sides.{behind}
 
 abbrev pub significant : Tok → Bool → SignificantToken
 significant t glued = record { tok = t; glued = glued }

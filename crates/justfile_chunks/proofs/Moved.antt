@@ -34,7 +34,7 @@ use Rattle.justfile_model.proofs.Relations.AlikeAttributes.{SeesContent}
 use Rattle.justfile_model.proofs.Relations.AlikeMeanings.{entries_alike}
 use Rattle.justfile_model.proofs.Relations.Graph.{SameView, graph, literal_graph, relates_only, sees_graph, written_graph}
 use Rattle.justfile_model.proofs.Relations.Projected.{entries_same}
-use Rattle.justfile_chunks_grammar.specs.Chunks.{moved, moved_item}
+use Rattle.justfile_chunks.specs.Chunks.{moved, moved_item}
 
 module _ (offset line : ℕ) where
   abbrev move : Tok → Tok

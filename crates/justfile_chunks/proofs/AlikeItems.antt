@@ -6,7 +6,7 @@ use Rattle.justfile_model.specs.Trees.LeafView.{LeafView}
 use Rattle.justfile_model.specs.Trees.Tree.{Comment, Construct, Content, Item, Newline, OrderedItem, WrittenItem}
 use Rattle.justfile_model.proofs.Lists.Binds.{some_back}
 use Rattle.justfile_model.proofs.Meanings.Ordered.{construct_meant, meanings_of}
-use Rattle.justfile_chunks_grammar.proofs.DocsAppend.{AreApart, BeginsNoConstruct, TakesNone, before_next}
+use Rattle.justfile_chunks.proofs.DocsAppend.{AreApart, BeginsNoConstruct, TakesNone, before_next}
 
 -- what is before the items that follow these
 abbrev pub before_after : {A B C S D : Type 0} → Before → List (Item A B C S D) → Before

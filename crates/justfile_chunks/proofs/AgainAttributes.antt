@@ -9,8 +9,8 @@ use Rattle.justfile_model.specs.Lexing.SignificantTokens.{SignificantToken}
 use Rattle.justfile_model.specs.Lexing.Tok.{Tok}
 use Rattle.justfile_model.specs.Trees.Tree as tree
 use Rattle.justfile_model.specs.Trees.Tree.{Argument, Expr, WrittenAttribute, bare_attribute}
-use Rattle.justfile_chunks_grammar.proofs.AgainExpressions as expressions
-use Rattle.justfile_chunks_grammar.proofs.Over.{Again, Ahead, Over, again, is_inside, is_key, is_quiet, key_before, more, next, not_name, one, past, quiet_inside, same, step, two, widened}
+use Rattle.justfile_chunks.proofs.AgainExpressions as expressions
+use Rattle.justfile_chunks.proofs.Over.{Again, Ahead, Over, again, is_inside, is_key, is_quiet, key_before, more, next, not_name, one, past, quiet_inside, same, step, two, widened}
 
 key_kind : (t : SignificantToken) (ts : Tokens) → IsKey (t ∷ ts) → IsKind kinds.Identifier t
 key_kind t [] k = k

@@ -8,8 +8,8 @@ use Rattle.justfile_model.specs.Grammars.Headers.{PathRest, PathOf, NamedParamet
 use Rattle.justfile_model.specs.Lexing.SignificantTokens.{SignificantToken}
 use Rattle.justfile_model.specs.Lexing.Tok.{Tok}
 use Rattle.justfile_model.specs.Trees.Tree.{Dependency, DependencyArgument, Header, Parameter}
-use Rattle.justfile_chunks_grammar.proofs.AgainExpressions as expressions
-use Rattle.justfile_chunks_grammar.proofs.Over.{Again, Ahead, again, is_quiet, more, next, past, same, step}
+use Rattle.justfile_chunks.proofs.AgainExpressions as expressions
+use Rattle.justfile_chunks.proofs.Over.{Again, Ahead, again, is_quiet, more, next, past, same, step}
 
 module _ {A : Type 0} (leaf : Tok → A) where
   path_rest : {names : List A} {ts x y : Tokens} → PathRest leaf names ts x → Ahead x y → Again is_quiet x y (λ r. PathRest leaf names r y) ts

@@ -10,13 +10,13 @@ use Rattle.justfile_model.specs.Grammars.Grammar.{File, ItemRest, Items, TokenPr
 use Rattle.justfile_model.specs.Lexing.SignificantTokens.{SignificantToken, is_whitespace}
 use Rattle.justfile_model.specs.Trees.Tree as tree
 use Rattle.justfile_model.specs.Trees.Tree.{Construct, WrittenItem}
-use Rattle.justfile_chunks_grammar.specs.Chunks.{ends_line, line_kind, next_kind}
-use Rattle.justfile_chunks_grammar.proofs.AgainAttributes as again_attributes
-use Rattle.justfile_chunks_grammar.proofs.AgainItems as again_items
-use Rattle.justfile_chunks_grammar.proofs.AlikeItems.{before_after}
-use Rattle.justfile_chunks_grammar.proofs.DocsAppend.{AreApart, BeginsNoConstruct, TakesNone}
-use Rattle.justfile_chunks_grammar.proofs.Over.{Ahead, Over, any_of, is_any, is_quiet, not_name, one, past, same, step}
-use Rattle.justfile_chunks_grammar.proofs.Passes.{At, AtStart, CutAfter, CutHere, FirstQuiet, LastOpen, bare, begins_line, clash, first_attributes, first_block, first_on_line, here, later, later_of, mark_start, no_cut, none_left, onward, past_line, past_recipe, starts}
+use Rattle.justfile_chunks.specs.Chunks.{ends_line, line_kind, next_kind}
+use Rattle.justfile_chunks.proofs.AgainAttributes as again_attributes
+use Rattle.justfile_chunks.proofs.AgainItems as again_items
+use Rattle.justfile_chunks.proofs.AlikeItems.{before_after}
+use Rattle.justfile_chunks.proofs.DocsAppend.{AreApart, BeginsNoConstruct, TakesNone}
+use Rattle.justfile_chunks.proofs.Over.{Ahead, Over, any_of, is_any, is_quiet, not_name, one, past, same, step}
+use Rattle.justfile_chunks.proofs.Passes.{At, AtStart, CutAfter, CutHere, FirstQuiet, LastOpen, bare, begins_line, clash, first_attributes, first_block, first_on_line, here, later, later_of, mark_start, no_cut, none_left, onward, past_line, past_recipe, starts}
 
 module _ {A B C S : Type 0} (projection : TokenProjection A B C S) (MayEnter : ℕ → Option SignificantToken → Type 0) where
   abbrev ManyItems : Type 0
