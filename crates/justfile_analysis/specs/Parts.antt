@@ -45,6 +45,11 @@ pub record IsFile (text : List ℕ) (known : Known) : Type 0 where
   pub root : IsRoot (codes "justfile") text ast
   pub right : IsRight (length text) ast known
 
+-- the text is none
+pub record IsNone (text : List ℕ) : Type 0 where
+  pub fault : Fault
+  pub no_root : HasNoRoot (codes "justfile") text fault
+
 -- The problem is that of an error of a text.
 pub record IsOfError (text : List ℕ) (e : CompileError) (p : PartProblem) : Type 0 where
   pub place : texts.Span

@@ -1,3 +1,4 @@
+pub mod Blanks
 pub mod Choices
 pub mod Findings
 pub mod Links

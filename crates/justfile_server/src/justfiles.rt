@@ -39,8 +39,7 @@ impl<F: Folders> Language for Justfiles<'_, F> {
 
     ghost knows = { Knows };
 
-    ghost finds = { λ uri text analysis found.
-        AreFound uri text analysis.problems.items found };
+    ghost finds = { AreFound };
 
     ghost mentioned = { Mentioned };
 
@@ -72,7 +71,7 @@ impl<F: Folders> Language for Justfiles<'_, F> {
         text: &str,
         analysis: &Analysis,
     ) -> Result<Vec<Finding>, AllocError> {
-        findings_of(alloc, uri, text, &analysis.problems)
+        findings_of(alloc, uri, text, analysis)
     }
 
     #[tactic(auto, using(crate::proofs::Unformatted::no_justfile, crate::proofs::Unformatted::not_printable, crate::proofs::Unformatted::no_numbers))]

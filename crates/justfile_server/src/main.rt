@@ -2,6 +2,7 @@
 //! output.
 #![tactic(auto)]
 
+mod blanks;
 mod choices;
 mod chunk;
 mod colors;
