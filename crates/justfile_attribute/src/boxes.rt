@@ -46,7 +46,10 @@ fn boxed_option<T: Drop>(alloc: Global, value: Option<T>) -> Result<Option<Box<T
 {
     match value {
         None => Ok(None),
-        Some(value) => Ok(Some(Box::new(alloc, value)?)),
+        Some(value) => match Box::new(alloc, value) {
+            Ok(value) => Ok(Some(value)),
+            Err(_failed) => Err(AllocError),
+        },
     }
 }
 

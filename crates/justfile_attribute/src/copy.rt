@@ -198,8 +198,10 @@ fn copy_literal<'src>(
 ) -> Result<Box<StringLiteral<'src>>, AllocError>
     ensures { IfOk result (λ copy. IsSameLiteral copy.value literal.now) }
 {
-    let copy = literal.clone(alloc)?;
-    Ok(Box::new(alloc, copy)?)
+    match Box::new(alloc, literal.clone(alloc)?) {
+        Ok(copy) => Ok(copy),
+        Err(_failed) => Err(AllocError),
+    }
 }
 
 /// Returns an optional value, out of its box.

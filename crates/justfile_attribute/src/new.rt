@@ -25,7 +25,7 @@ use justfile_attribute_rules::{
     signal_set, string_literals, take_value,
 };
 use justfile_expression::Expression;
-use justfile_token::{CompileResult, Name, StringLiteral, Token};
+use justfile_token::{CompileResult, Fault, Name, StringLiteral, Token};
 use justfile_vocabulary::AttributeKind;
 use std::alloc::{AllocError, Global};
 use std::collections::BTreeMap;
@@ -55,9 +55,14 @@ impl<'src> Attribute<'src> {
         // isn't evaluated.
         ensures fields { IfOk result HasDerivedAttributeFields }
     {
-        let arguments = boxed_pairs(alloc, arguments)?;
-        let keyword_arguments = boxed_values(alloc, keyword_arguments)?;
-        Attribute::from_boxes(alloc, name, kind, arguments, keyword_arguments)
+        let arguments = match boxed_pairs(alloc, arguments) {
+            Ok(arguments) => arguments,
+            Err(_failed) => return Err(Fault::Memory),
+        };
+        match boxed_values(alloc, keyword_arguments) {
+            Ok(keys) => Attribute::from_boxes(alloc, name, kind, arguments, keys),
+            Err(_failed) => Err(Fault::Memory),
+        }
     }
 
     /// Returns what `new` does, of arguments that are in boxes already.
@@ -78,7 +83,9 @@ impl<'src> Attribute<'src> {
             (key_arguments keyword_arguments.entry)) }
         ensures fields { IfOk result HasDerivedAttributeFields }
     {
-        check_count(name, kind, arguments.len())?;
+        if let Err(fault) = check_count(name, kind, arguments.len()) {
+            return Err(fault);
+        }
         if accepts_expressions(kind) {
             from_expressions(name, kind, arguments, keyword_arguments)
         } else {
@@ -297,9 +304,14 @@ fn continue_attribute<'src>(
         (key_arguments keys.now)) (continue_made (quoted_leaves literals.entry.items))) }
     ensures fields { IfOk result HasDerivedAttributeFields }
 {
-    let signals = signal_set(alloc, literals)?;
-    check_keys(name, AttributeKind::Continue, keys)?;
-    Ok(Attribute::Continue(signals))
+    let signals = match signal_set(alloc, literals) {
+        Ok(signals) => signals,
+        Err(fault) => return Err(fault),
+    };
+    match check_keys(name, AttributeKind::Continue, keys) {
+        Ok(()) => Ok(Attribute::Continue(signals)),
+        Err(fault) => Err(fault),
+    }
 }
 
 /// Returns a `script` attribute with a program and its arguments, or without arguments.
@@ -333,7 +345,10 @@ fn cache<'src>(
         (new.new_cache views_keys name.entry.token (key_arguments keys.old))) }
     ensures fields { IfOk result HasDerivedAttributeFields }
 {
-    let mut values = no_values(alloc)?;
+    let mut values = match no_values(alloc) {
+        Ok(values) => values,
+        Err(_failed) => return Err(Fault::Memory),
+    };
     let known = check_keys(name, AttributeKind::Cache, keys);
     match read_cache(name, keys, &mut values) {
         Ok(()) => match known {
@@ -351,7 +366,10 @@ fn no_values<'src>(alloc: Global) -> Result<Box<CacheValues<'src>>, AllocError> 
         inputs: None,
         outputs: None,
     };
-    Ok(Box::new(alloc, values)?)
+    match Box::new(alloc, values) {
+        Ok(values) => Ok(values),
+        Err(_failed) => Err(AllocError),
+    }
 }
 
 /// Takes the keys of `cache` out of the map, one after another, and sets the values.
@@ -364,8 +382,12 @@ fn read_cache<'src>(
     ensures { Makes (λ _. cache_of values.new) result
         (cache_read name.entry.token (key_arguments keys.old)) }
 {
-    read_value(name, keys, "extra", &mut values.extra)?;
-    read_value(name, keys, "inputs", &mut values.inputs)?;
+    if let Err(fault) = read_value(name, keys, "extra", &mut values.extra) {
+        return Err(fault);
+    }
+    if let Err(fault) = read_value(name, keys, "inputs", &mut values.inputs) {
+        return Err(fault);
+    }
     read_value(name, keys, "outputs", &mut values.outputs)
 }
 
