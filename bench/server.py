@@ -17,6 +17,7 @@ from urllib.parse import unquote
 
 DOCUMENT = "file:///work/justfile"
 FRESH = "file:///work/fresh/justfile"
+IMPORTED = "file:///work/part.just"
 START = """# builds
 set shell := ["sh", "-c"]
 import 'more.just'
@@ -635,7 +636,9 @@ def tell_findings(program, encoding):
         check(found == [wanted], f"of {plain!r} is told {found} and not {[wanted]}")
         check(server.open(FRESH, plain)[0]["message"] == wanted["message"], f"of {plain!r} an opened document tells something else")
         broken = server.change(DOCUMENT, [{"text": plain + "\n)\n"}])
-        check(len(broken) == 1 and "code" not in broken[0], f"of a text that can't be parsed is told {broken}")
+        check("code" not in broken[0], f"of a text that can't be parsed is told {broken}")
+        imported = json.loads(json.dumps(server.open(IMPORTED, plain)).replace(IMPORTED, DOCUMENT))
+        check(broken[1:] == imported, f"beside what is wrong is told {broken[1:]} and not {imported}")
     texts = [wanted_finding(text, *case, encoding, DOCUMENT) for text, *case in (FINDINGS[0], FINDINGS[14])]
     lines = texts[0][0].count("\n")
     for side in texts[1][1]["range"].values():
@@ -646,6 +649,9 @@ def tell_findings(program, encoding):
     found = server.change(DOCUMENT, [{"text": "a: b\nx := y\nb: a\nz := y\n"}])
     codes = [told["code"] for told in found]
     check(codes == ["UndefinedVariable", "CircularRecipeDependency", "UndefinedVariable"], f"of a circle among problems is told {codes}")
+    found = server.change(DOCUMENT, [{"text": "a := b\n)\nset quiet\nset quiet\n"}])
+    told = [(told["range"]["start"]["line"], told.get("code")) for told in found]
+    check(told == [(1, None), (3, "DuplicateSet")], f"beside an error is told {told}")
     for name in NAMES:
         found = server.open(f"file:///work/{name}", "x := y\n")
         check([told["code"] for told in found] == ["UndefinedVariable"], f"of {name} is told {found}")

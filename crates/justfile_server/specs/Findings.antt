@@ -46,7 +46,7 @@ limit = 131072
 -- Those in the text of the document with an address, by its parts and the problems in it.
 abbrev pub AreBy : (uri text : List ℕ) → List (Part Known) → List Problem → List Finding → Type 0
 AreBy uri text parts [] findings = AreInText (may_be_imported uri) text findings
-AreBy uri text parts (problem ∷ others) findings = AreBeside (without_wrong parts text) findings
+AreBy uri text parts (problem ∷ others) findings = AreBeside (without_wrong 0 parts text) findings
 
 -- none are told of a text that is too long
 abbrev pub AreInShort : (is_long : Bool) → (uri text : List ℕ) → Analysis → List Finding → Type 0

@@ -72,14 +72,14 @@ pub(crate) fn findings_of(
     }
 }
 
-/// Returns what is wrong with what the parts of a text say that aren't wrong themselves. Names that they
-/// lack may be in the others.
+/// Returns what is wrong with what a text says beside what is wrong in its parts. Names that it lacks may
+/// be there.
 fn findings_beside(
     alloc: Global,
     text: &str,
     parts: &[Part<Known>],
 ) -> Result<Vec<Finding>, AllocError>
-    ensures { IfOk result (λ found. AreBeside (without_wrong parts.now text.now) found.items) }
+    ensures { IfOk result (λ found. AreBeside (without_wrong 0 parts.now text.now) found.items) }
 {
     let bytes = without_wrong(alloc, text.as_bytes(), parts)?;
     match str::from_utf8(&bytes) {
