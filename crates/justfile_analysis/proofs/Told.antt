@@ -1,11 +1,11 @@
 -- Problems that are told.
-use Rattle.std.proofs.Common.{◌≡◌, ◌∙◌, ℕ, ◌+◌, ◌-◌, ◌<◌, length, get_or, drop, List, [], ◌∷◌, ◌++◌, Some, None, refl, sym, ap, subst, append_assoc, append-nil}
+use Rattle.std.proofs.Common.{◌≡◌, ◌∙◌, ℕ, ◌+◌, ◌-◌, ◌<◌, length, get_or, drop, List, [], ◌∷◌, ◌++◌, Some, None, refl, sym, ap, subst, append_assoc}
 use Rattle.std.proofs.lemmas.List.{drop_more}
 use Rattle.text_parts.specs.declared.part.Part.{Part}
 use Rattle.editor_language.specs.declared.parts.Known.{Known}
 use Rattle.editor_language.specs.declared.parts.PartProblem.{PartProblem}
 use Rattle.editor_language.specs.declared.parts.Problem.{Problem}
-use Rattle.justfile_analysis.specs.InText.{AreTold, AreToldAs, IsToldAt, ProblemAt, moved_offset, problems_from, problem_at}
+use Rattle.justfile_analysis.specs.InText.{AreToldAs, IsToldAt, ProblemAt, moved_offset, problems_from, problem_at}
 
 -- one more
 told_push : (rs : List ProblemAt) (ps : List Problem) (r : ProblemAt) (p : Problem) → AreToldAs rs ps → IsToldAt r.base r.problem p → AreToldAs (rs ++ r ∷ []) (ps ++ p ∷ [])
@@ -20,11 +20,8 @@ pub record AreToldUpTo (parts : List (Part Known)) (start : ℕ) (rest : List (P
   pub are : so_far ++ problems_from start rest ≡ problems_from 0 parts
   pub are_told : AreToldAs so_far told
 
-pub none_told : (parts : List (Part Known)) → AreToldUpTo parts 0 parts []
-none_told parts = record { so_far = []; are = refl; are_told = tt }
-
 -- a part without a problem
-pub right_part : (parts : List (Part Known)) (start : ℕ) (p : Part Known) (rest : List (Part Known)) (told : List Problem) → p.known.problem ≡ None
+right_part : (parts : List (Part Known)) (start : ℕ) (p : Part Known) (rest : List (Part Known)) (told : List Problem) → p.known.problem ≡ None
     → AreToldUpTo parts start (p ∷ rest) told → AreToldUpTo parts (moved_offset start p.size) rest told
 right_part parts start p rest told none t = record {
   so_far = t.so_far;
@@ -33,7 +30,7 @@ right_part parts start p rest told none t = record {
 }
 
 -- a part with one
-pub wrong_part : (parts : List (Part Known)) (start : ℕ) (p : Part Known) (rest : List (Part Known)) (told : List Problem) (q : PartProblem) (problem : Problem)
+wrong_part : (parts : List (Part Known)) (start : ℕ) (p : Part Known) (rest : List (Part Known)) (told : List Problem) (q : PartProblem) (problem : Problem)
     → p.known.problem ≡ Some q → IsToldAt (start - 1) q problem → AreToldUpTo parts start (p ∷ rest) told
     → AreToldUpTo parts (moved_offset start p.size) rest (told ++ problem ∷ [])
 wrong_part parts start p rest told q problem some is t = record {
@@ -42,10 +39,6 @@ wrong_part parts start p rest told q problem some is t = record {
       ∙ ap (λ o. t.so_far ++ (problem_at (start - 1) o ++ problems_from (moved_offset start p.size) rest)) (sym some) ∙ t.are;
   are_told = told_push t.so_far told (record { base = start - 1; problem = q }) problem t.are_told is;
 }
-
--- at the end
-pub all_told : (parts : List (Part Known)) (start : ℕ) (told : List Problem) → AreToldUpTo parts start [] told → AreTold parts told
-all_told parts start told t = subst (λ rs. AreToldAs rs told) (sym (append-nil t.so_far) ∙ t.are) t.are_told
 
 -- ---- the next part of a loop
 
