@@ -46,10 +46,7 @@ fn boxed_option<T: Drop>(alloc: Global, value: Option<T>) -> Result<Option<Box<T
 {
     match value {
         None => Ok(None),
-        Some(value) => match Box::new(alloc, value) {
-            Ok(value) => Ok(Some(value)),
-            Err(_failed) => Err(AllocError),
-        },
+        Some(value) => Ok(Some(Box::new(alloc, value)?)),
     }
 }
 

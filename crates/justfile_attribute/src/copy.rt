@@ -198,10 +198,8 @@ fn copy_literal<'src>(
 ) -> Result<Box<StringLiteral<'src>>, AllocError>
     ensures { IfOk result (λ copy. IsSameLiteral copy.value literal.now) }
 {
-    match Box::new(alloc, literal.clone(alloc)?) {
-        Ok(copy) => Ok(copy),
-        Err(_failed) => Err(AllocError),
-    }
+    let copy = literal.clone(alloc)?;
+    Ok(Box::new(alloc, copy)?)
 }
 
 /// Returns an optional value, out of its box.

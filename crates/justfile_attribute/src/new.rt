@@ -109,7 +109,9 @@ fn from_expressions<'src>(
         (key_arguments keys.entry)) }
     ensures fields { IfOk result HasDerivedAttributeFields }
 {
-    check_keys(name, kind, &keys)?;
+    if let Err(fault) = check_keys(name, kind, &keys) {
+        return Err(fault);
+    }
     match kind {
         AttributeKind::Confirm => Ok(Attribute::Confirm(first(arguments))),
         AttributeKind::Doc => Ok(Attribute::Doc(first(arguments))),
@@ -224,7 +226,9 @@ fn of_plain_literals<'src>(
         (key_arguments keys.now))) }
     ensures fields { IfOk result HasDerivedAttributeFields }
 {
-    check_keys(name, kind, keys)?;
+    if let Err(fault) = check_keys(name, kind, keys) {
+        return Err(fault);
+    }
     match kind {
         AttributeKind::Extension => Ok(Attribute::Extension(only(literals))),
         AttributeKind::Group => Ok(Attribute::Group(only(literals))),
@@ -366,10 +370,7 @@ fn no_values<'src>(alloc: Global) -> Result<Box<CacheValues<'src>>, AllocError> 
         inputs: None,
         outputs: None,
     };
-    match Box::new(alloc, values) {
-        Ok(values) => Ok(values),
-        Err(_failed) => Err(AllocError),
-    }
+    Ok(Box::new(alloc, values)?)
 }
 
 /// Takes the keys of `cache` out of the map, one after another, and sets the values.

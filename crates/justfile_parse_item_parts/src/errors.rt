@@ -3,7 +3,7 @@ ghost use Rattle.justfile_vocabulary.specs.declared.keyword.Keyword.TheVariants 
 ghost use Rattle.justfile_model.specs.Readers.ReaderState.{ExpectedKeyword, UnknownSetting};
 ghost use Rattle.justfile_parse_base.specs.ParseErrors.{IsFaultOfRead};
 
-use justfile_token::{CompileErrorKind, Fault, Token};
+use justfile_token::{CompileError, CompileErrorKind, Fault, Token};
 use justfile_vocabulary::Keyword;
 use std::alloc::Global;
 
@@ -11,9 +11,12 @@ use std::alloc::Global;
 pub(crate) fn unknown_setting_fault<'src>(name: Token<'src>) -> Fault<'src>
     ensures { IsFaultOfRead (UnknownSetting name.entry) result }
 {
-    Fault::Compile(name.error(CompileErrorKind::UnknownSetting {
-        setting: name.lexeme(),
-    }))
+    Fault::Compile(CompileError {
+        kind: CompileErrorKind::UnknownSetting {
+            setting: name.lexeme(),
+        },
+        token: name,
+    })
 }
 
 /// Makes the fault for a word that isn't one of these keywords. It is `Memory` if there is no
@@ -26,9 +29,10 @@ pub(crate) fn expected_keyword_fault<'src>(
     ensures { IsFaultOfRead (ExpectedKeyword expected.now found.entry) result }
 {
     match Vec::from_slice(alloc, expected) {
-        Ok(expected) => {
-            Fault::Compile(found.error(CompileErrorKind::ExpectedKeyword { expected, found }))
-        }
+        Ok(expected) => Fault::Compile(CompileError {
+            kind: CompileErrorKind::ExpectedKeyword { expected, found },
+            token: found,
+        }),
         Err(_) => Fault::Memory,
     }
 }

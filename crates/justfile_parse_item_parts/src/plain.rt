@@ -21,7 +21,7 @@ use justfile_expression::Expression;
 use justfile_numbers::Version;
 use justfile_parse_base::{ParseError, rule_error};
 use justfile_setting::Setting;
-use justfile_token::{CompileErrorKind, Fault, StringKind, StringLiteral, Token};
+use justfile_token::{CompileError, CompileErrorKind, Fault, StringKind, StringLiteral, Token};
 use justfile_vocabulary::{Indentation, Keyword};
 use std::alloc::Global;
 
@@ -135,7 +135,10 @@ fn setting_expression_fault<'src>(name: Token<'src>, setting: Keyword) -> Fault<
     ensures { IsFaultOfRead (BreaksRule
         (record { rule = rules.SettingExpression setting; token = name.entry })) result }
 {
-    Fault::Compile(name.error(CompileErrorKind::SettingExpression { setting }))
+    Fault::Compile(CompileError {
+        kind: CompileErrorKind::SettingExpression { setting },
+        token: name,
+    })
 }
 
 /// Makes the fault for a text that isn't an indentation, with the reason as `message`.
@@ -143,7 +146,10 @@ fn invalid_indentation_fault<'src>(token: Token<'src>, message: &'static str) ->
     ensures { IsFaultOfRead (BreaksRule
         (record { rule = rules.InvalidIndentation message.now; token = token.entry })) result }
 {
-    Fault::Compile(token.error(CompileErrorKind::InvalidIndentation { message }))
+    Fault::Compile(CompileError {
+        kind: CompileErrorKind::InvalidIndentation { message },
+        token,
+    })
 }
 
 /// Makes the fault for a text that isn't a version.
@@ -157,7 +163,10 @@ fn invalid_minimum_version_fault<'src>(
         (record { rule = rules.InvalidMinimumVersion (string_bytes version); token = token.entry }))
         result }
 {
-    Fault::Compile(token.error(CompileErrorKind::InvalidMinimumVersion { source, version }))
+    Fault::Compile(CompileError {
+        kind: CompileErrorKind::InvalidMinimumVersion { source, version },
+        token,
+    })
 }
 
 /// Makes the fault for a version that is later than the running one.
@@ -171,5 +180,8 @@ fn minimum_version_fault<'src>(
       token = token.entry;
     })) result }
 {
-    Fault::Compile(token.error(CompileErrorKind::MinimumVersion { current, minimum }))
+    Fault::Compile(CompileError {
+        kind: CompileErrorKind::MinimumVersion { current, minimum },
+        token,
+    })
 }

@@ -187,7 +187,10 @@ fn make_interpreter<'src>(
         ≡ tree.Interpreter (leaf_tree_of command.entry.value) (trees_of arguments.entry.items)) }
 {
     let command = Box::into_inner(command);
-    Ok(Box::new(alloc, Interpreter { command, arguments })?)
+    match Box::new(alloc, Interpreter { command, arguments }) {
+        Ok(interpreter) => Ok(interpreter),
+        Err(_failed) => Err(ExpressionError::Memory),
+    }
 }
 
 /// Parses a setting that takes a plain literal.
