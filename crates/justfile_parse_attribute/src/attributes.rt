@@ -21,7 +21,7 @@ use justfile_expression_parser::parse_expression;
 use justfile_parse_base::{ParseError, comment_text, parse_separator, rule_error};
 use justfile_parse_expression::significant::SignificantToken;
 use justfile_parse_expression::{ExpressionError, ParserState, SyntaxError};
-use justfile_token::{CompileErrorKind, Expander, Fault, Name, Token};
+use justfile_token::{CompileError, CompileErrorKind, Expander, Fault, Name, Token};
 use justfile_vocabulary::{AttributeKind, Keyword, TokenKind};
 use justfile_written::Written;
 
@@ -431,24 +431,33 @@ fn peek_key<X: Expander>(parser: &ParserState<'_, '_, X>) -> bool
 fn after_key_fault<'src>(first: Token<'src>) -> Fault<'src>
     ensures { IsFaultOfRule AttributePositionalFollowsKeyword first.entry result }
 {
-    Fault::Compile(first.error(CompileErrorKind::AttributePositionalFollowsKeyword))
+    Fault::Compile(CompileError {
+        kind: CompileErrorKind::AttributePositionalFollowsKeyword,
+        token: first,
+    })
 }
 
 /// Makes the fault for a key that is repeated.
 fn repeated_key_fault<'src>(name: Token<'src>, key: Token<'src>) -> Fault<'src>
     ensures { IsFaultOfRule (DuplicateAttributeKey name.entry key.entry) key.entry result }
 {
-    Fault::Compile(key.error(CompileErrorKind::DuplicateAttributeKey {
-        attribute: name.lexeme(),
-        key: key.lexeme(),
-    }))
+    Fault::Compile(CompileError {
+        kind: CompileErrorKind::DuplicateAttributeKey {
+            attribute: name.lexeme(),
+            key: key.lexeme(),
+        },
+        token: key,
+    })
 }
 
 /// Makes the fault for a name that isn't that of an attribute.
 fn unknown_attribute_fault<'src>(name: Token<'src>) -> Fault<'src>
     ensures { IsFaultOfRule (UnknownAttribute name.entry) name.entry result }
 {
-    Fault::Compile(name.error(CompileErrorKind::UnknownAttribute {
-        attribute: name.lexeme(),
-    }))
+    Fault::Compile(CompileError {
+        kind: CompileErrorKind::UnknownAttribute {
+            attribute: name.lexeme(),
+        },
+        token: name,
+    })
 }

@@ -22,7 +22,9 @@ use crate::arguments::Arguments;
 use justfile_attribute::{Attribute, plain_attribute, takes_no_arguments};
 use justfile_attribute_rules::KeyMap;
 use justfile_expression::Expression;
-use justfile_token::{CompileErrorKind, CompileResult, Fault, Name, StringLiteral, Token};
+use justfile_token::{
+    CompileError, CompileErrorKind, CompileResult, Fault, Name, StringLiteral, Token,
+};
 use justfile_vocabulary::AttributeKind;
 use justfile_written::Written;
 use std::alloc::{AllocError, Global};
@@ -155,7 +157,10 @@ fn literal_of(value: Box<Expression<'_>>) -> Option<StringLiteral<'_>>
 fn not_literal_fault<'src>(name: Name<'src>, first: Token<'src>) -> Fault<'src>
     ensures { IsFaultOfRule (AttributeArgumentExpression name.entry.token) first.entry result }
 {
-    Fault::Compile(first.error(CompileErrorKind::AttributeArgumentExpression { attribute: name }))
+    Fault::Compile(CompileError {
+        kind: CompileErrorKind::AttributeArgumentExpression { attribute: name },
+        token: first,
+    })
 }
 
 /// Appends an attribute without a comment. Reserves room first, since a push that can fail would

@@ -18,7 +18,7 @@ ghost use Rattle.justfile_vocabulary.specs.declared.attribute_kind.AttributeKind
 
 use crate::labels::{Labels, find_label};
 use justfile_attribute::Attribute;
-use justfile_token::{CompileErrorKind, CompileResult, Fault, Name, StringLiteral};
+use justfile_token::{CompileError, CompileErrorKind, CompileResult, Fault, Name, StringLiteral};
 use justfile_vocabulary::AttributeKind;
 use justfile_written::Written;
 use std::alloc::Global;
@@ -155,10 +155,10 @@ fn repeated_argument_fault<'src>(
         (DuplicateArgAttribute (string_bytes argument.now.cooked) first) name.entry.token result }
 {
     match argument.cooked.as_str().to_string(alloc) {
-        Ok(arg) => Fault::Compile(name.error(CompileErrorKind::DuplicateArgAttribute {
-            arg,
-            first: line,
-        })),
+        Ok(arg) => Fault::Compile(CompileError {
+            kind: CompileErrorKind::DuplicateArgAttribute { arg, first: line },
+            token: name.token,
+        }),
         Err(_) => Fault::Memory,
     }
 }
@@ -177,10 +177,10 @@ fn repeated_group_fault<'src>(
         literal.now.token first) name.entry.token result }
 {
     match literal.clone(alloc) {
-        Ok(group) => Fault::Compile(name.error(CompileErrorKind::DuplicateGroupAttribute {
-            first: line,
-            group,
-        })),
+        Ok(group) => Fault::Compile(CompileError {
+            kind: CompileErrorKind::DuplicateGroupAttribute { first: line, group },
+            token: name.token,
+        }),
         Err(_) => Fault::Memory,
     }
 }
@@ -254,8 +254,11 @@ fn repeated_kind_fault<'src>(name: Name<'src>, first: Name<'src>) -> Fault<'src>
     ensures { IsFaultOfRule (DuplicateAttribute name.entry.token first.entry.token)
         name.entry.token result }
 {
-    Fault::Compile(name.error(CompileErrorKind::DuplicateAttribute {
-        attribute: name,
-        first: first.line,
-    }))
+    Fault::Compile(CompileError {
+        kind: CompileErrorKind::DuplicateAttribute {
+            attribute: name,
+            first: first.line,
+        },
+        token: name.token,
+    })
 }

@@ -18,7 +18,7 @@ use crate::read_parameters::ReadParameters;
 use justfile_attribute::Attribute;
 use justfile_attribute_set::AttributeSet;
 use justfile_parse_base::{ParseError, rule_error};
-use justfile_token::{CompileErrorKind, Fault, StringLiteral, Token};
+use justfile_token::{CompileError, CompileErrorKind, Fault, StringLiteral, Token};
 use std::alloc::Global;
 
 /// Returns the `arg` attribute of the parameter with this name, if it has one. It belongs to the
@@ -130,11 +130,10 @@ fn undefined_argument_fault<'src>(alloc: Global, argument: &StringLiteral<'src>)
         argument.now.token result }
 {
     match argument.cooked.as_str().to_string(alloc) {
-        Ok(text) => Fault::Compile(
-            argument
-                .token
-                .error(CompileErrorKind::UndefinedArgAttribute { argument: text }),
-        ),
+        Ok(text) => Fault::Compile(CompileError {
+            kind: CompileErrorKind::UndefinedArgAttribute { argument: text },
+            token: argument.token,
+        }),
         Err(_) => Fault::Memory,
     }
 }

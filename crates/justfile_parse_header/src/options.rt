@@ -25,7 +25,7 @@ use justfile_expression::ListFeature;
 use justfile_parse_base::text_sets::{add_text, is_among};
 use justfile_parse_base::{ParseError, rule_error};
 use justfile_parse_expression::{ExpressionError, ParserState};
-use justfile_token::{CompileErrorKind, Expander, Fault, Name, Token};
+use justfile_token::{CompileError, CompileErrorKind, Expander, Fault, Name, Token};
 use justfile_vocabulary::Switch;
 use std::alloc::Global;
 use std::collections::BTreeSet;
@@ -173,10 +173,13 @@ fn same_long_fault<'src>(
     ensures { IsFaultOfRule (DuplicateLongOption option.now recipe.entry) token.entry result }
 {
     match option.to_string(alloc) {
-        Ok(option) => Fault::Compile(token.error(CompileErrorKind::DuplicateOption {
-            recipe: recipe.lexeme(),
-            option: Switch::Long(option),
-        })),
+        Ok(option) => Fault::Compile(CompileError {
+            kind: CompileErrorKind::DuplicateOption {
+                recipe: recipe.lexeme(),
+                option: Switch::Long(option),
+            },
+            token,
+        }),
         Err(_) => Fault::Memory,
     }
 }
@@ -206,8 +209,11 @@ fn check_short<'src>(
 fn same_short_fault<'src>(recipe: Token<'src>, option: char, token: Token<'src>) -> Fault<'src>
     ensures { IsFaultOfRule (DuplicateShortOption option recipe.entry) token.entry result }
 {
-    Fault::Compile(token.error(CompileErrorKind::DuplicateOption {
-        recipe: recipe.lexeme(),
-        option: Switch::Short(option),
-    }))
+    Fault::Compile(CompileError {
+        kind: CompileErrorKind::DuplicateOption {
+            recipe: recipe.lexeme(),
+            option: Switch::Short(option),
+        },
+        token,
+    })
 }

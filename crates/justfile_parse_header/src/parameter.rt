@@ -29,7 +29,7 @@ use justfile_numbers::{Number, Numerator};
 use justfile_parse_base::{ParseError, next_binding_number, rule_error};
 use justfile_parse_expression::{ExpressionError, ParserState};
 use justfile_recipe_header::{Parameter, ParameterKind, unboxed};
-use justfile_token::{CompileErrorKind, Expander, Fault, Name, Token};
+use justfile_token::{CompileError, CompileErrorKind, Expander, Fault, Name, Token};
 use justfile_vocabulary::TokenKind;
 use std::alloc::Global;
 
@@ -157,9 +157,12 @@ fn expect_no_name<'src, X: Expander>(
 fn after_variadic_fault<'src>(name: Token<'src>) -> Fault<'src>
     ensures { IsAfterVariadicFault name.entry result }
 {
-    Fault::Compile(name.error(CompileErrorKind::ParameterFollowsVariadicParameter {
-        parameter: name.lexeme(),
-    }))
+    Fault::Compile(CompileError {
+        kind: CompileErrorKind::ParameterFollowsVariadicParameter {
+            parameter: name.lexeme(),
+        },
+        token: name,
+    })
 }
 
 /// Parses a parameter with or without `$` before it, and appends it to `parameters`.
@@ -307,9 +310,10 @@ fn flag_with_default_fault<'src>(alloc: Global, name: Token<'src>) -> Fault<'src
     ensures { IsFaultOfRule (FlagWithDefault name.entry) name.entry result }
 {
     match name.lexeme().to_string(alloc) {
-        Ok(parameter) => {
-            Fault::Compile(name.error(CompileErrorKind::FlagWithDefault { parameter }))
-        }
+        Ok(parameter) => Fault::Compile(CompileError {
+            kind: CompileErrorKind::FlagWithDefault { parameter },
+            token: name,
+        }),
         Err(_) => Fault::Memory,
     }
 }
@@ -320,7 +324,8 @@ fn bound_alone_fault<'src>(key: Name<'src>) -> Fault<'src>
     ensures { IsFaultOfRule (ArgAttributeRequiresMultipleOrVariadic key.entry.token)
         key.entry.token result }
 {
-    Fault::Compile(
-        key.token.error(CompileErrorKind::ArgAttributeRequiresMultipleOrVariadic { key }),
-    )
+    Fault::Compile(CompileError {
+        kind: CompileErrorKind::ArgAttributeRequiresMultipleOrVariadic { key },
+        token: key.token,
+    })
 }
