@@ -1,0 +1,13 @@
+use Rattle.std.proofs.Common.{◌≡◌, drop, length}
+use Rattle.std.specs.Str.{IsCharBoundary}
+use Rattle.text_edits.specs.Pieces.{text_after}
+use Rattle.text_edits.proofs.pieces.skip.Given as goal
+
+abbrev pub invariant-pieces : goal.invariant-pieces
+invariant-pieces l = record {
+  same : drop l.left (text_after l.after.items) ≡ drop l.fn.count (text_after l.fn.after.items);
+  bound : IsCharBoundary (text_after l.after.items) l.left;
+}
+
+abbrev pub decreases-pieces : goal.decreases-pieces
+decreases-pieces l = length l.after.items
