@@ -1,9 +1,8 @@
 -- Going along a text: the last place that isn't past a position is the offset of the position.
-use Rattle.std.proofs.Common.{◌≡◌, ◌==◌, ◌||◌, ◌&&◌, ℕ, zero, suc, ◌+◌, ◌*◌, ◌-◌, ◌<◌, ◌≤◌, Bool, true, false, List, [], ◌∷◌, ◌++◌, length, take, drop, get_or, cond, refl, sym, ap, subst, ◌∙◌, ◌⊎◌, ◌↔◌, arith, inl, inr}
+use Rattle.std.proofs.Common.{◌≡◌, ◌==◌, ◌&&◌, ℕ, zero, suc, ◌+◌, ◌-◌, ◌<◌, ◌≤◌, Bool, true, false, List, [], ◌∷◌, ◌++◌, length, take, drop, get_or, cond, refl, sym, ap, subst, ◌∙◌, ◌⊎◌, ◌↔◌, arith, inl, inr}
 use Rattle.std.specs.Prelude.{nat_lt}
-use Rattle.std.specs.List.{sum_by}
 use Rattle.std.specs.Str.{IsCharBoundary, IsUtf8}
-use Rattle.std.proofs.lemmas.Bool.{and_parts, and_cases, cases_Bool, cases_eq, cases_lt, cond-true, cond-false, eq-eqb, eqb-true, eqb-false, le-ltb, lt-ltb, ltb-true, ltb-false, ne_eqb, or_cases}
+use Rattle.std.proofs.lemmas.Bool.{and_parts, cases_Bool, cases_eq, cases_lt, cond-true, cond-false, eq-eqb, eqb-true, le-ltb, lt-ltb, ltb-true, ne_eqb, or_cases}
 use Rattle.std.proofs.lemmas.List.{take_all, take_more, take-append-drop, take-take, length-take-le}
 use Rattle.std.proofs.lemmas.List.Sums.{count_by_more_no, sum_by-cons}
 use Rattle.std.proofs.lemmas.Str.{IsCharBoundary-end}
@@ -11,10 +10,10 @@ use Rattle.justfile_lines.specs.declared.encoding.Encoding.{Encoding}
 use Rattle.justfile_lines.specs.declared.encoding.Encoding.TheVariants.{Utf8, Utf16}
 use Rattle.justfile_lines.specs.declared.position.Place.{Place}
 use Rattle.justfile_lines.specs.declared.position.Position.{Position}
-use Rattle.justfile_lines.specs.Going.{IsInText, IsUpTo, after_byte, first_place, is_past, longest, place_after}
-use Rattle.justfile_lines.specs.Positions.{IsLastUpTo, IsOffset, byte_units, column_at, feeds, last_line, line_at, width}
+use Rattle.justfile_lines.specs.Going.{IsInText, IsUpTo, after_byte, after_size, first_place, is_past, place_after, size_between}
+use Rattle.justfile_lines.specs.Positions.{IsOffset, byte_units, column_at, feeds, last_line, line_at, width}
 use Rattle.justfile_lines.specs.Starts.{IsStart}
-use Rattle.justfile_lines.proofs.Columns.{column_from, first_start, line_after, line_at-le, lines_grow, start_after, without_feeds}
+use Rattle.justfile_lines.proofs.Columns.{column_from, first_start, line_after, lines_grow, start_after, without_feeds}
 
 -- ---- places after texts
 
@@ -278,10 +277,62 @@ module _ (encoding : Encoding) (p last : Place) (text : List ℕ) (position : Po
     ];
   }
 
-  -- the text ends
-  pub ended : length text ≤ at → IsUpTo encoding p text position count
-  ended all = record {
-    boundary = boundary;
-    up_to = not_past;
-    last = λ other bound lt. absurd (omega (arith, latest other bound (omega (arith, bound.0, all)), lt));
-  }
+-- ---- sizes of texts
+
+same_place : (p q : Place) → p.offset ≡ q.offset → p.position.line ≡ q.position.line → p.position.column ≡ q.position.column → p ≡ q
+same_place p q e f g =
+    ap (λ (n : ℕ). record { offset = n; position = p.position }) e
+    ∙ ap (λ (n : ℕ). record { offset = q.offset; position = record { line = n; column = p.position.column } }) f
+    ∙ ap (λ (n : ℕ). record { offset = q.offset; position = record { line = q.position.line; column = n } }) g
+
+size_line : (encoding : Encoding) (text : List ℕ) → (place_after encoding first_place text).position.line ≡ feeds text
+size_line encoding text = omega (arith, line_is encoding first_place text)
+
+-- the column after a text, by that of its size
+column_by_size : (encoding : Encoding) (p : Place) (text : List ℕ)
+    → (place_after encoding p text).position.column ≡ (after_size p (place_after encoding first_place text)).position.column
+column_by_size encoding p text =
+    let size = place_after encoding first_place text in
+    elim (cases_lt 0 (feeds text)) [
+      | inl some ↦
+          let other : (size.position.line == 0) ≡ false = ne_eqb size.position.line 0 (λ e. omega (arith, some, e, size_line encoding text)) in
+          column_after_feed encoding p text some
+          ∙ sym (column_after_feed encoding first_place text some)
+          ∙ sym (cond-false (size.position.line == 0) (p.position.column + size.position.column) size.position.column other)
+      | inr none ↦
+          let zero : feeds text ≡ 0 = omega (arith, none) in
+          let same : (size.position.line == 0) ≡ true = eq-eqb size.position.line 0 (omega (arith, zero, size_line encoding text)) in
+          let sum : (place_after encoding p text).position.column ≡ p.position.column + size.position.column =
+          omega (arith, column_grows encoding p text zero, column_grows encoding first_place text zero)
+          in
+          sum ∙ sym (cond-true (size.position.line == 0) (p.position.column + size.position.column) size.position.column same)
+    ]
+
+pub after_its_size : (encoding : Encoding) (p : Place) (text : List ℕ) → after_size p (place_after encoding first_place text) ≡ place_after encoding p text
+after_its_size encoding p text =
+    let size = place_after encoding first_place text in
+    same_place (after_size p size) (place_after encoding p text) (omega (arith, offset_is encoding p text, offset_is encoding first_place text))
+    (omega (arith, line_is encoding p text, size_line encoding text)) (sym (column_by_size encoding p text))
+
+column_between : (encoding : Encoding) (p : Place) (text : List ℕ)
+    → (size_between p (place_after encoding p text)).position.column ≡ (place_after encoding first_place text).position.column
+column_between encoding p text =
+    let end = place_after encoding p text in
+    let size = place_after encoding first_place text in
+    elim (cases_lt 0 (feeds text)) [
+      | inl some ↦
+          let other : (end.position.line == p.position.line) ≡ false = ne_eqb end.position.line p.position.line (λ e. omega (arith, some, e, line_is encoding p text)) in
+          cond-false (end.position.line == p.position.line) (end.position.column - p.position.column) end.position.column other
+          ∙ column_after_feed encoding p text some
+          ∙ sym (column_after_feed encoding first_place text some)
+      | inr none ↦
+          let zero : feeds text ≡ 0 = omega (arith, none) in
+          let same : (end.position.line == p.position.line) ≡ true = eq-eqb end.position.line p.position.line (omega (arith, zero, line_is encoding p text)) in
+          let rest : end.position.column - p.position.column ≡ size.position.column = omega (arith, column_grows encoding p text zero, column_grows encoding first_place text zero) in
+          cond-true (end.position.line == p.position.line) (end.position.column - p.position.column) end.position.column same ∙ rest
+    ]
+
+pub size_is : (encoding : Encoding) (p : Place) (text : List ℕ) → size_between p (place_after encoding p text) ≡ place_after encoding first_place text
+size_is encoding p text =
+    same_place (size_between p (place_after encoding p text)) (place_after encoding first_place text) (omega (arith, offset_is encoding p text, offset_is encoding first_place text))
+    (omega (arith, line_is encoding p text, size_line encoding text)) (column_between encoding p text)

@@ -1,5 +1,5 @@
 -- Going along a text, from a place on.
-use Rattle.std.specs.Prelude.{◌≡◌, ◌<◌, ◌≤◌, ◌+◌, ◌*◌, ◌==◌, ◌||◌, ◌&&◌, ℕ, Bool, true, false, List, [], ◌∷◌, length, take, nat_lt, if◌then◌else◌}
+use Rattle.std.specs.Prelude.{◌≡◌, ◌<◌, ◌≤◌, ◌+◌, ◌-◌, ◌*◌, ◌==◌, ◌||◌, ◌&&◌, ℕ, Bool, true, false, List, [], ◌∷◌, take, nat_lt, if◌then◌else◌}
 use Rattle.std.specs.Str.{IsCharBoundary}
 use Rattle.justfile_lines.specs.declared.encoding.Encoding.{Encoding}
 use Rattle.justfile_lines.specs.declared.position.Place.{Place}
@@ -39,3 +39,20 @@ longest = 9223372036854775807
 pub record IsInText (p : Place) : Type 0 where
   pub line : p.position.line ≤ p.offset
   pub column : p.position.column ≤ 2 * p.offset
+
+-- the place after a text that begins at a place, by the place after it as a whole text, which is its size
+abbrev pub after_size : Place → (size : Place) → Place
+after_size p size = record {
+  offset = p.offset + size.offset;
+  position = record { line = p.position.line + size.position.line; column = if size.position.line == 0 then p.position.column + size.position.column else size.position.column };
+}
+
+-- the size of a text that leads from one place to another
+abbrev pub size_between : (start end : Place) → Place
+size_between start end = record {
+  offset = end.offset - start.offset;
+  position = record {
+    line = end.position.line - start.position.line;
+    column = if end.position.line == start.position.line then end.position.column - start.position.column else end.position.column;
+  };
+}

@@ -1,37 +1,80 @@
 -- Texts in pieces.
-use Rattle.std.proofs.Common.{◌≡◌, ◌∙◌, ℕ, zero, suc, ◌+◌, ◌-◌, ◌<◌, ◌≤◌, false, true, List, [], ◌∷◌, ◌++◌, length, take, drop, max, reverse, get_or, Bool, ◌==◌, Result, Ok, Err, IfOk, OnOk, refl, sym, ap, subst, append_assoc, append-nil, arith, inl, inr, length-append, length-drop}
+use Rattle.std.proofs.Common.{◌≡◌, ◌∙◌, ℕ, ◌+◌, ◌-◌, ◌<◌, ◌≤◌, false, true, List, [], ◌∷◌, ◌++◌, length, take, drop, max, get_or, Result, Ok, Err, IfOk, OnOk, refl, sym, ap, subst, append_assoc, append-nil, arith, inl, inr, length-append, length-drop}
 use Rattle.std.specs.List.{flat_map}
 use Rattle.std.specs.Str.{IsCharBoundary, IsUtf8}
-use denote.Ref.{Bor}
-use Rattle.std.proofs.lemmas.Bool.{cases_lt, eqb-false}
+use Rattle.std.proofs.lemmas.Bool.{both_ways, cases_lt}
 use Rattle.std.proofs.lemmas.Grind.{flat_map-append}
 use Rattle.std.proofs.Math.Seq.{take-append-add, take-append_seam, drop-append-add}
-use Rattle.std.proofs.lemmas.List.{get_or-append-add, get_or_append_left, reverse-append, take-append-drop, take-append-le, drop-append-le, take_all, drop-drop, length-take-le}
+use Rattle.std.proofs.lemmas.List.{get_or-append-add, get_or_append_left, reverse-append, take-append-drop, take-append-le, take_all, length-take-le}
 use Rattle.std.proofs.lemmas.Str.{IsCharBoundary-end, IsUtf8-append, IsUtf8-drop, IsUtf8-take}
-use Rattle.justfile_lines.specs.Going.{IsInText, IsUpTo, first_place, is_past, longest, place_after}
+use Rattle.justfile_lines.specs.Going.{IsInText, IsUpTo, after_size, first_place, is_past, longest, place_after, size_between}
 use Rattle.justfile_lines.specs.Positions.{IsOffset}
 use Rattle.justfile_lines.specs.declared.encoding.Encoding.{Encoding}
 use Rattle.justfile_lines.specs.declared.position.Place.{Place}
 use Rattle.justfile_lines.specs.declared.position.Position.{Position}
-use Rattle.justfile_lines.proofs.Ahead.{all_in_text, first_in_text, offset_found, offset_is, past_further, place-append}
-use Rattle.text_edits.specs.Pieces.{Leads, text_after, text_before, text_of}
-use Rattle.text_edits.specs.Replaced.{IsReplaced}
-use Rattle.text_edits.specs.declared.edit.Range.{Range}
+use Rattle.justfile_lines.proofs.Ahead.{after_its_size, all_in_text, first_in_text, offset_found, offset_is, past_further, place-append, size_is}
+use Rattle.text_edits.specs.Pieces.{AreSized, Leads, text_after, text_before, text_of}
+use Rattle.text_edits.specs.declared.pieces.Next.{Next}
 use Rattle.text_edits.specs.declared.pieces.Piece.{Piece}
+
+-- ---- sizes
+
+pub sized_more : (encoding : Encoding) (after next : List Next) (p : Next) → next ≡ after ++ p ∷ [] → AreSized encoding after → p.size ≡ place_after encoding first_place p.text.now
+    → AreSized encoding next
+sized_more encoding after next p e h k = subst (AreSized encoding) (sym e) (go after h)
+  where
+    go : (after : List Next) → AreSized encoding after → AreSized encoding (after ++ p ∷ [])
+    go [] h = (k, tt)
+    go (q ∷ after) h = (h.0, go after h.1)
+
+pub sized_less : (encoding : Encoding) (after rest : List Next) (p : Next) → after ≡ rest ++ p ∷ [] → AreSized encoding after → AreSized encoding rest × (p.size ≡ place_after encoding first_place p.text.now)
+sized_less encoding after rest p e h = go rest (subst (AreSized encoding) e h)
+  where
+    go : (rest : List Next) → AreSized encoding (rest ++ p ∷ []) → AreSized encoding rest × (p.size ≡ place_after encoding first_place p.text.now)
+    go [] h = (tt, h.0)
+    go (q ∷ rest) h = let it = go rest h.1 in ((h.0, it.0), it.1)
+
+-- the size of the text from a place to another
+pub size_from_place : (encoding : Encoding) (start end size : Place) (text : List ℕ) → end ≡ place_after encoding start text → size ≡ size_between start end
+    → size ≡ place_after encoding first_place text
+size_from_place encoding start end size text e f = f ∙ ap (size_between start) e ∙ size_is encoding start text
+
+-- the place after a piece
+pub beyond_is : (encoding : Encoding) (here size beyond : Place) (text : List ℕ) → size ≡ place_after encoding first_place text → beyond ≡ after_size here size
+    → beyond ≡ place_after encoding here text
+beyond_is encoding here size beyond text e f = f ∙ ap (after_size here) e ∙ after_its_size encoding here text
+
+pub sized_in_text : (encoding : Encoding) (size : Place) (text : List ℕ) → size ≡ place_after encoding first_place text → IsInText size
+sized_in_text encoding size text e = subst IsInText (sym e) (all_in_text encoding first_place text first_in_text)
+
+pub size_offset : (encoding : Encoding) (size : Place) (text : List ℕ) → size ≡ place_after encoding first_place text → size.offset ≡ length text
+size_offset encoding size text e =
+    let plain : first_place.offset + length text ≡ length text = omega arith in
+    ap (λ (q : Place). q.offset) e ∙ offset_is encoding first_place text ∙ plain
+
+-- what is left of a piece has its size
+pub rest_size : (encoding : Encoding) (here there size beyond rest_of : Place) (text passed rest : List ℕ) (n : ℕ) → size ≡ place_after encoding first_place text → beyond ≡ after_size here size
+    → there ≡ place_after encoding here passed → passed ≡ take n text → rest ≡ drop n text → rest_of ≡ size_between there beyond → rest_of ≡ place_after encoding first_place rest
+rest_size encoding here there size beyond rest_of text passed rest n e f g p q r =
+    let cut : text ≡ passed ++ rest = sym (ap (λ (l : List ℕ). l ++ rest) p ∙ ap (λ (l : List ℕ). take n text ++ l) q ∙ take-append-drop n text) in
+    let end : beyond ≡ place_after encoding there rest =
+    beyond_is encoding here size beyond text e f ∙ ap (place_after encoding here) cut ∙ place-append encoding here passed rest ∙ ap (λ (x : Place). place_after encoding x rest) (sym g)
+    in
+    size_from_place encoding there beyond rest_of rest end r
 
 -- ---- one piece more or less
 
 pub before_more : (before : List Piece) (p : Piece) → text_before (before ++ p ∷ []) ≡ text_before before ++ p.text.now
 before_more before p = flat_map-append (λ (q : Piece). q.text.now) before (p ∷ []) ∙ ap (λ (l : List ℕ). text_before before ++ l) (append-nil p.text.now)
 
-pub after_more : (after : List (Bor (List ℕ))) (p : Bor (List ℕ)) → text_after (after ++ p ∷ []) ≡ p.now ++ text_after after
-after_more after p = ap (flat_map (λ (q : Bor (List ℕ)). q.now)) (reverse-append after (p ∷ []))
+pub after_more : (after : List Next) (p : Next) → text_after (after ++ p ∷ []) ≡ p.text.now ++ text_after after
+after_more after p = ap (flat_map (λ (q : Next). q.text.now)) (reverse-append after (p ∷ []))
 
 -- the last piece before the place comes after it
-pub moved_back : (before other : List Piece) (after next : List (Bor (List ℕ))) (p : Piece) (b : Bor (List ℕ)) → other ≡ before ++ p ∷ [] → b.now ≡ p.text.now → next ≡ after ++ b ∷ []
+pub moved_back : (before other : List Piece) (after next : List Next) (p : Piece) (b : Next) → other ≡ before ++ p ∷ [] → b.text.now ≡ p.text.now → next ≡ after ++ b ∷ []
     → text_of before next ≡ text_of other after
 moved_back before other after next p b e same f =
-    ap (λ (l : List (Bor (List ℕ))). text_before before ++ text_after l) f
+    ap (λ (l : List Next). text_before before ++ text_after l) f
     ∙ ap (λ (l : List ℕ). text_before before ++ l) (after_more after b ∙ ap (λ (l : List ℕ). l ++ text_after after) same)
     ∙ sym (append_assoc (text_before before) p.text.now (text_after after))
     ∙ ap (λ (l : List ℕ). l ++ text_after after) (sym (before_more before p))
@@ -45,6 +88,15 @@ leads_more encoding from (b ∷ before) p h = (h.0, leads_more encoding (place_a
 pub leads_less : (encoding : Encoding) (from : Place) (before : List Piece) (p : Piece) (to : Place) → Leads encoding from (before ++ p ∷ []) to → Leads encoding from before p.start
 leads_less encoding from [] p to h = h.0
 leads_less encoding from (b ∷ before) p to h = (h.0, leads_less encoding (place_after encoding from b.text.now) before p to h.1)
+
+pub leads_last : (encoding : Encoding) (from : Place) (before : List Piece) (p : Piece) (to : Place) → Leads encoding from (before ++ p ∷ []) to → to ≡ place_after encoding p.start p.text.now
+leads_last encoding from [] p to h = h.1 ∙ ap (λ (q : Place). place_after encoding q p.text.now) (sym h.0)
+leads_last encoding from (b ∷ before) p to h = leads_last encoding (place_after encoding from b.text.now) before p to h.1
+
+pub last_size : (encoding : Encoding) (before other : List Piece) (p : Piece) (to size : Place) → other ≡ before ++ p ∷ [] → Leads encoding first_place other to
+    → size ≡ size_between p.start to → size ≡ place_after encoding first_place p.text.now
+last_size encoding before other p to size e h f =
+    size_from_place encoding p.start to size p.text.now (leads_last encoding first_place before p to (subst (λ (l : List Piece). Leads encoding first_place l to) e h)) f
 
 pub leads_to : (encoding : Encoding) (from : Place) (before : List Piece) (to : Place) → Leads encoding from before to → to ≡ place_after encoding from (text_before before)
 leads_to encoding from [] to h = h
@@ -64,14 +116,14 @@ pub place_in_text : (encoding : Encoding) (before : List Piece) (to : Place) →
 place_in_text encoding before to h = subst IsInText (sym (leads_to encoding first_place before to h)) (all_in_text encoding first_place (text_before before) first_in_text)
 
 -- there is room for the next piece
-pub room : (encoding : Encoding) (before : List Piece) (here : Place) (after rest : List (Bor (List ℕ))) (piece : Bor (List ℕ)) (whole : List ℕ) → Leads encoding first_place before here
-    → after ≡ rest ++ piece ∷ [] → text_of before after ≡ whole → length whole ≤ longest → here.offset + length piece.now ≤ longest
+pub room : (encoding : Encoding) (before : List Piece) (here : Place) (after rest : List Next) (piece : Next) (whole : List ℕ) → Leads encoding first_place before here
+    → after ≡ rest ++ piece ∷ [] → text_of before after ≡ whole → length whole ≤ longest → here.offset + length piece.text.now ≤ longest
 room encoding before here after rest piece whole leads e same short =
-    let split : length whole ≡ length (text_before before) + (length piece.now + length (text_after rest)) =
+    let split : length whole ≡ length (text_before before) + (length piece.text.now + length (text_after rest)) =
     ap length (sym same)
     ∙ length-append (text_before before) (text_after after)
     ∙ ap (λ (l : List ℕ). length (text_before before) + length l) (ap text_after e ∙ after_more rest piece)
-    ∙ ap (λ (n : ℕ). length (text_before before) + n) (length-append piece.now (text_after rest))
+    ∙ ap (λ (n : ℕ). length (text_before before) + n) (length-append piece.text.now (text_after rest))
     in
     omega (arith, split, short, count_before encoding before here leads)
 
@@ -149,54 +201,40 @@ all_before encoding front here position begins up_to = record {
 
 -- ---- going on
 
-pub passed_on : (before new : List Piece) (after rest next : List (Bor (List ℕ))) (piece r : Bor (List ℕ)) (passed : List ℕ) (n : ℕ) → after ≡ rest ++ piece ∷ []
-    → text_before new ≡ text_before before ++ passed → passed ≡ take n piece.now → r.now ≡ drop n piece.now → next ≡ rest ++ r ∷ [] → text_of new next ≡ text_of before after
-passed_on before new after rest next piece r passed n e f p q g =
-    let front = text_before before in
-    let back = text_after rest in
-    let cut : passed ++ r.now ≡ piece.now = ap (λ (l : List ℕ). l ++ r.now) p ∙ ap (λ (l : List ℕ). take n piece.now ++ l) q ∙ take-append-drop n piece.now in
-    ap (λ (l : List (Bor (List ℕ))). text_before new ++ text_after l) g
-    ∙ ap (λ (l : List ℕ). text_before new ++ l) (after_more rest r)
-    ∙ ap (λ (l : List ℕ). l ++ (r.now ++ back)) f
-    ∙ append_assoc front passed (r.now ++ back)
-    ∙ ap (λ (l : List ℕ). front ++ l) (sym (append_assoc passed r.now back) ∙ ap (λ (l : List ℕ). l ++ back) cut)
-    ∙ sym (ap (λ (l : List ℕ). front ++ l) (ap text_after e ∙ after_more rest piece))
-
--- something is left
-pub some_left : (b : Bool) (l : List ℕ) (mid all : ℕ) → b ≡ length l == 0 → b ≡ false → length l + mid ≡ all → mid < all
-some_left b l mid all is f e =
-    elim (cases_lt 0 (length l)) [
-      | inl some ↦ omega (arith, some, e)
-      | inr none ↦ absurd (eqb-false (length l) 0 (sym is ∙ f) (omega (arith, none)))
-    ]
-
-pub goes_up_to : (encoding : Encoding) (before new : List Piece) (here there : Place) (after rest : List (Bor (List ℕ))) (piece : Bor (List ℕ)) (whole passed : List ℕ) (position : Position)
-    → Leads encoding first_place before here → after ≡ rest ++ piece ∷ [] → text_of before after ≡ whole
-    → (up : (count : ℕ) × IsUpTo encoding here piece.now position count × (there ≡ place_after encoding here (take count piece.now)) × (there.offset ≡ here.offset + count))
-    → text_before new ≡ text_before before ++ passed → passed ≡ take (there.offset - here.offset) piece.now → there.offset - here.offset < length piece.now
-    → IsUpTo encoding first_place whole position (length (text_before new))
-goes_up_to encoding before new here there after rest piece whole passed position leads e same up f p some =
+-- a place in the piece that comes next
+pub goes_into : (encoding : Encoding) (before new : List Piece) (here there : Place) (part back passed : List ℕ) (position : Position)
+    → Leads encoding first_place before here
+    → (up : (count : ℕ) × IsUpTo encoding here part position count × (there ≡ place_after encoding here (take count part)) × (there.offset ≡ here.offset + count))
+    → text_before new ≡ text_before before ++ passed → passed ≡ take (there.offset - here.offset) part → is_past position (place_after encoding here part) ≡ true
+    → IsUpTo encoding first_place (text_before before ++ (part ++ back)) position (length (text_before new))
+goes_into encoding before new here there part back passed position leads up f p past =
     let front = text_before before in
     let count = up.0 in
     let n : there.offset - here.offset ≡ count = omega (arith, up.3) in
     let long : length (text_before new) ≡ length front + count =
     ap length f
     ∙ length-append front passed
-    ∙ ap (λ (m : ℕ). length front + m) (ap length p ∙ ap (λ (m : ℕ). length (take m piece.now)) n ∙ length-take-le count piece.now up.1.boundary.0)
+    ∙ ap (λ (m : ℕ). length front + m) (ap length p ∙ ap (λ (m : ℕ). length (take m part)) n ∙ length-take-le count part up.1.boundary.0)
     in
-    let split : front ++ (piece.now ++ text_after rest) ≡ whole = sym (ap (λ (l : List ℕ). front ++ l) (ap text_after e ∙ after_more rest piece)) ∙ same in
-    subst (λ (m : ℕ). IsUpTo encoding first_place whole position m) (sym long)
-    (subst (λ (l : List ℕ). IsUpTo encoding first_place l position (length front + count)) split
-    (reached encoding front piece.now (text_after rest) here position (length front) count refl (leads_to encoding first_place before here leads) up.1 (omega (arith, n, some))))
+    let some : count < length part =
+    elim (cases_lt count (length part)) [
+      | inl lt ↦ lt
+      | inr le ↦ absurd
+          (both_ways (is_past position (place_after encoding here part))
+          (subst (λ (l : List ℕ). is_past position (place_after encoding here l) ≡ false) (take_all count part le) up.1.up_to) past)
+    ]
+    in
+    subst (λ (m : ℕ). IsUpTo encoding first_place (front ++ (part ++ back)) position m) (sym long)
+    (reached encoding front part back here position (length front) count refl (leads_to encoding first_place before here leads) up.1 some)
 
-pub no_more : (after : List (Bor (List ℕ))) → length after ≡ 0 → after ≡ []
+pub no_more : (after : List Next) → length after ≡ 0 → after ≡ []
 no_more [] e = refl
 no_more (p ∷ after) e = absurd (omega (arith, e))
 
-pub ends_up_to : (encoding : Encoding) (before : List Piece) (here : Place) (after : List (Bor (List ℕ))) (whole : List ℕ) (position : Position) → Leads encoding first_place before here
+pub ends_up_to : (encoding : Encoding) (before : List Piece) (here : Place) (after : List Next) (whole : List ℕ) (position : Position) → Leads encoding first_place before here
     → length after ≡ 0 → text_of before after ≡ whole → is_past position here ≡ false → IsUpTo encoding first_place whole position (length (text_before before))
 ends_up_to encoding before here after whole position leads none same up_to =
-    let all : text_before before ≡ whole = sym (append-nil (text_before before)) ∙ ap (λ (l : List (Bor (List ℕ))). text_of before l) (sym (no_more after none)) ∙ same in
+    let all : text_before before ≡ whole = sym (append-nil (text_before before)) ∙ ap (λ (l : List Next). text_of before l) (sym (no_more after none)) ∙ same in
     subst (λ (l : List ℕ). IsUpTo encoding first_place l position (length (text_before before))) all
     (all_before encoding (text_before before) here position (leads_to encoding first_place before here leads) up_to)
 
@@ -225,21 +263,21 @@ rest_bound front part n k is bound = (
       omega (arith, bound.1 within (omega (arith, same, hi)), same),
 )
 
-pub skipped : (after rest : List (Bor (List ℕ))) (piece : Bor (List ℕ)) (left : ℕ) (all : List ℕ) → after ≡ rest ++ piece ∷ [] → length piece.now ≤ left → drop left (text_after after) ≡ all
-    → drop (left - length piece.now) (text_after rest) ≡ all
+pub skipped : (after rest : List Next) (piece : Next) (left : ℕ) (all : List ℕ) → after ≡ rest ++ piece ∷ [] → length piece.text.now ≤ left → drop left (text_after after) ≡ all
+    → drop (left - length piece.text.now) (text_after rest) ≡ all
 skipped after rest piece left all e le same =
-    let more : left ≡ length piece.now + (left - length piece.now) = omega (arith, le) in
-    sym (drop-append-add piece.now (text_after rest) (left - length piece.now))
-    ∙ ap (λ (m : ℕ). drop m (piece.now ++ text_after rest)) (sym more)
+    let more : left ≡ length piece.text.now + (left - length piece.text.now) = omega (arith, le) in
+    sym (drop-append-add piece.text.now (text_after rest) (left - length piece.text.now))
+    ∙ ap (λ (m : ℕ). drop m (piece.text.now ++ text_after rest)) (sym more)
     ∙ ap (drop left) (sym (ap text_after e ∙ after_more rest piece))
     ∙ same
 
-pub bound_past : (after rest : List (Bor (List ℕ))) (piece : Bor (List ℕ)) (left : ℕ) → after ≡ rest ++ piece ∷ [] → length piece.now ≤ left → IsCharBoundary (text_after after) left
-    → IsCharBoundary (text_after rest) (left - length piece.now)
+pub bound_past : (after rest : List Next) (piece : Next) (left : ℕ) → after ≡ rest ++ piece ∷ [] → length piece.text.now ≤ left → IsCharBoundary (text_after after) left
+    → IsCharBoundary (text_after rest) (left - length piece.text.now)
 bound_past after rest piece left e le bound =
-    let more : left ≡ length piece.now + (left - length piece.now) = omega (arith, le) in
-    rest_bound piece.now (text_after rest) (length piece.now) (left - length piece.now) refl
-    (subst (λ (m : ℕ). IsCharBoundary (piece.now ++ text_after rest) m) more (subst (λ (l : List ℕ). IsCharBoundary l left) (ap text_after e ∙ after_more rest piece) bound))
+    let more : left ≡ length piece.text.now + (left - length piece.text.now) = omega (arith, le) in
+    rest_bound piece.text.now (text_after rest) (length piece.text.now) (left - length piece.text.now) refl
+    (subst (λ (m : ℕ). IsCharBoundary (piece.text.now ++ text_after rest) m) more (subst (λ (l : List ℕ). IsCharBoundary l left) (ap text_after e ∙ after_more rest piece) bound))
 
 module _ (front back old : List ℕ) (s e : ℕ) (split : front ++ back ≡ old) (is : length front ≡ s) where
   pub cut_bound : IsCharBoundary old s → IsCharBoundary old e → IsCharBoundary back (e - s)
@@ -295,3 +333,37 @@ module _ (front back old : List ℕ) (s e : ℕ) (split : front ++ back ≡ old)
           length-append front back,
           all,
         )
+
+pub short_rest : (after rest : List Next) (piece : Next) → after ≡ rest ++ piece ∷ [] → length (text_after after) ≤ longest → length (text_after rest) ≤ longest
+short_rest after rest piece e h = omega (arith, h, ap length (ap text_after e ∙ after_more rest piece) ∙ length-append piece.text.now (text_after rest))
+
+-- ---- pieces that are passed
+
+-- a whole piece is passed
+pub passed_whole : (before new : List Piece) (after rest : List Next) (piece : Next) → after ≡ rest ++ piece ∷ [] → text_before new ≡ text_before before ++ piece.text.now
+    → text_of new rest ≡ text_of before after
+passed_whole before new after rest piece e f =
+    ap (λ (l : List ℕ). l ++ text_after rest) f
+    ∙ append_assoc (text_before before) piece.text.now (text_after rest)
+    ∙ sym (ap (λ (l : List ℕ). text_before before ++ l) (ap text_after e ∙ after_more rest piece))
+
+-- a part of a piece is passed
+pub passed_part : (before new : List Piece) (after next : List Next) (r : Next) (text passed : List ℕ) (n : ℕ) → text_before new ≡ text_before before ++ passed → passed ≡ take n text
+    → r.text.now ≡ drop n text → next ≡ after ++ r ∷ [] → text_of new next ≡ text_before before ++ (text ++ text_after after)
+passed_part before new after next r text passed n f p q g =
+    let front = text_before before in
+    let back = text_after after in
+    let cut : passed ++ r.text.now ≡ text = ap (λ (l : List ℕ). l ++ r.text.now) p ∙ ap (λ (l : List ℕ). take n text ++ l) q ∙ take-append-drop n text in
+    ap (λ (l : List Next). text_before new ++ text_after l) g
+    ∙ ap (λ (l : List ℕ). text_before new ++ l) (after_more after r)
+    ∙ ap (λ (l : List ℕ). l ++ (r.text.now ++ back)) f
+    ∙ append_assoc front passed (r.text.now ++ back)
+    ∙ ap (λ (l : List ℕ). front ++ l) (sym (append_assoc passed r.text.now back) ∙ ap (λ (l : List ℕ). l ++ back) cut)
+
+-- the place in a piece is the one after what is passed of it
+pub there_is : (encoding : Encoding) (here there : Place) (part passed : List ℕ) (position : Position)
+    → (up : (count : ℕ) × IsUpTo encoding here part position count × (there ≡ place_after encoding here (take count part)) × (there.offset ≡ here.offset + count))
+    → passed ≡ take (there.offset - here.offset) part → there ≡ place_after encoding here passed
+there_is encoding here there part passed position up p =
+    let n : up.0 ≡ there.offset - here.offset = omega (arith, up.3) in
+    up.2 ∙ ap (λ (m : ℕ). place_after encoding here (take m part)) n ∙ ap (place_after encoding here) (sym p)

@@ -1,9 +1,9 @@
 //! Texts in pieces, in which ranges are replaced one after the other. Nothing is copied before all are.
-ghost use Rattle.std.specs.Prelude.{◌≡◌, ◌+◌, ◌≤◌, ◌++◌, [], IfOk, OnOk, drop, false, length, string_bytes};
+ghost use Rattle.std.specs.Prelude.{◌≡◌, ◌+◌, ◌≤◌, ◌++◌, [], IfOk, OnOk, drop, false, length, string_bytes, true};
 ghost use Rattle.std.specs.Str.{IsCharBoundary, IsUtf8};
 ghost use Rattle.justfile_lines.specs.Going.{IsUpTo, first_place, is_past, longest, place_after};
 ghost use Rattle.justfile_lines.specs.Positions.{IsOffset};
-ghost use Rattle.text_edits.specs.Pieces.{ArePieces, Leads, prop_pieces, text_after, text_before, text_of};
+ghost use Rattle.text_edits.specs.Pieces.{ArePieces, AreSized, Leads, prop_pieces, text_after, text_before, text_of};
 ghost use Rattle.text_edits.specs.Replaced.{IsReplaced};
 
 use crate::edit::Range;
@@ -26,6 +26,15 @@ struct Piece<'a> {
     start: Place,
 }
 
+/// A part of a text that comes next.
+#[derive(Clone, Copy)]
+struct Next<'a> {
+    /// What it is.
+    text: &'a str,
+    /// Its size.
+    size: Place,
+}
+
 /// A text in pieces, and a place between two of them. To go from there to another place takes as many steps
 /// as there are pieces between the two.
 #[derive(Drop)]
@@ -35,7 +44,7 @@ pub struct Pieces<'a> {
     /// The pieces before the place.
     before: Vec<Piece<'a>>,
     /// The pieces after it, the next one last.
-    after: Vec<&'a str>,
+    after: Vec<Next<'a>>,
     /// The place.
     here: Place,
     /// How many bytes the text has.
@@ -55,7 +64,7 @@ impl<'a> Pieces<'a> {
     {
         let len = sum(0, text.len())?;
         let mut after = Vec::new(alloc);
-        push_parts(&mut after, text)?;
+        push_parts(&mut after, encoding, text)?;
         Ok(Pieces {
             encoding,
             before: Vec::new(alloc),
@@ -87,8 +96,8 @@ impl<'a> Pieces<'a> {
         let here = seek(&mut before, &mut after, encoding, end, range.start)?;
         let taken = end.offset.saturating_sub(here.offset);
         let len = sum(len - taken, new.len())?;
-        skip(&mut after, taken)?;
-        push_parts(&mut after, new)?;
+        skip(&mut after, encoding, taken)?;
+        push_parts(&mut after, encoding, new)?;
         Ok(Pieces {
             encoding,
             before,
@@ -114,7 +123,7 @@ impl<'a> Pieces<'a> {
         }
         let mut after = self.after;
         'rest: while let Some(piece) = after.pop() {
-            made.push_str(piece)?;
+            made.push_str(piece.text)?;
         }
         Ok(made)
     }
@@ -132,34 +141,60 @@ fn sum(first: usize, second: usize) -> Result<usize, AllocError>
 }
 
 /// Cuts a text into pieces, and puts them before those that come next.
-fn push_parts<'a>(after: &mut Vec<&'a str>, text: &'a str) -> Result<(), AllocError>
-    ensures { OnOk result (text_after after.new.items ≡ text.now ++ text_after after.old.items) }
+fn push_parts<'a>(
+    after: &mut Vec<Next<'a>>,
+    encoding: Encoding,
+    text: &'a str,
+) -> Result<(), AllocError>
+    requires short { length text.now ≤ longest }
+    requires sized { AreSized encoding after.old.items }
+    ensures text { OnOk result
+        (text_after after.new.items ≡ text.now ++ text_after after.old.items) }
+    ensures sized { OnOk result (AreSized encoding after.new.items) }
 {
     let mut rest = text;
     while rest.len() > PIECE {
         let cut = rest.floor_char_boundary(rest.len() - PIECE);
         let (front, back) = rest.split_at(cut);
-        after.push(back)?;
+        push_next(after, encoding, back)?;
         rest = front;
     }
-    after.push(rest)?;
+    push_next(after, encoding, rest)
+}
+
+/// Puts a piece before those that come next.
+fn push_next<'a>(
+    after: &mut Vec<Next<'a>>,
+    encoding: Encoding,
+    text: &'a str,
+) -> Result<(), AllocError>
+    requires short { length text.now ≤ longest }
+    requires sized { AreSized encoding after.old.items }
+    ensures text { OnOk result
+        (text_after after.new.items ≡ text.now ++ text_after after.old.items) }
+    ensures sized { OnOk result (AreSized encoding after.new.items) }
+{
+    let size = Place::size_of(encoding, text);
+    after.push(Next { text, size })?;
     Ok(())
 }
 
 /// Goes to the offset of a position.
 fn seek<'a>(
     before: &mut Vec<Piece<'a>>,
-    after: &mut Vec<&'a str>,
+    after: &mut Vec<Next<'a>>,
     encoding: Encoding,
     here: Place,
     position: Position,
 ) -> Result<Place, AllocError>
     requires leads { Leads encoding first_place before.old.items here }
+    requires sized { AreSized encoding after.old.items }
     requires utf8 { IsUtf8 (text_of before.old.items after.old.items) }
     requires short { length (text_of before.old.items after.old.items) ≤ longest }
     ensures same { OnOk result (text_of before.new.items after.new.items
         ≡ text_of before.old.items after.old.items) }
     ensures leads { IfOk result (Leads encoding first_place before.new.items) }
+    ensures sized { OnOk result (AreSized encoding after.new.items) }
     ensures offset { IfOk result (λ there. IsOffset encoding
         (text_of before.old.items after.old.items) position there.offset) }
     ensures count { IfOk result (λ there. there.offset ≡ length (text_before before.new.items)) }
@@ -171,15 +206,17 @@ fn seek<'a>(
 /// Goes back until the place isn't past a position.
 fn go_back<'a>(
     before: &mut Vec<Piece<'a>>,
-    after: &mut Vec<&'a str>,
+    after: &mut Vec<Next<'a>>,
     encoding: Encoding,
     here: Place,
     position: Position,
 ) -> Result<Place, AllocError>
-    requires { Leads encoding first_place before.old.items here }
+    requires leads { Leads encoding first_place before.old.items here }
+    requires sized { AreSized encoding after.old.items }
     ensures same { OnOk result (text_of before.new.items after.new.items
         ≡ text_of before.old.items after.old.items) }
     ensures leads { IfOk result (Leads encoding first_place before.new.items) }
+    ensures sized { OnOk result (AreSized encoding after.new.items) }
     ensures up_to { IfOk result (λ there. is_past position there ≡ false) }
 {
     let mut here = here;
@@ -187,7 +224,10 @@ fn go_back<'a>(
         let Some(piece) = before.pop() else {
             return Ok(Place::start());
         };
-        after.push(piece.text)?;
+        after.push(Next {
+            text: piece.text,
+            size: here.size_from(piece.start),
+        })?;
         here = piece.start;
     }
     Ok(here)
@@ -196,32 +236,64 @@ fn go_back<'a>(
 /// Goes on from a place that isn't past a position up to the last one that isn't.
 fn go_on<'a>(
     before: &mut Vec<Piece<'a>>,
-    after: &mut Vec<&'a str>,
+    after: &mut Vec<Next<'a>>,
     encoding: Encoding,
     here: Place,
     position: Position,
 ) -> Result<Place, AllocError>
     requires leads { Leads encoding first_place before.old.items here }
+    requires sized { AreSized encoding after.old.items }
     requires up_to { is_past position here ≡ false }
     requires short { length (text_of before.old.items after.old.items) ≤ longest }
     ensures same { OnOk result (text_of before.new.items after.new.items
         ≡ text_of before.old.items after.old.items) }
     ensures leads { IfOk result (Leads encoding first_place before.new.items) }
+    ensures sized { OnOk result (AreSized encoding after.new.items) }
     ensures reaches { OnOk result (IsUpTo encoding first_place
         (text_of before.old.items after.old.items) position (length (text_before before.new.items))) }
 {
     let mut here = here;
     'pieces: while let Some(piece) = after.pop() {
-        let there = here.up_to(encoding, piece, position);
-        let (passed, rest) = piece.split_at(there.offset - here.offset);
-        push_passed(before, passed, here)?;
-        here = there;
-        if !rest.is_empty() {
-            after.push(rest)?;
-            return Ok(here);
+        let beyond = here.after_size(piece.size);
+        if beyond.is_past(position) {
+            return go_into(before, after, encoding, here, position, piece);
         }
+        push_passed(before, piece.text, here)?;
+        here = beyond;
     }
     Ok(here)
+}
+
+/// Goes on up to the last place that isn't past a position, in a piece after which the place is past it.
+fn go_into<'a>(
+    before: &mut Vec<Piece<'a>>,
+    after: &mut Vec<Next<'a>>,
+    encoding: Encoding,
+    here: Place,
+    position: Position,
+    piece: Next<'a>,
+) -> Result<Place, AllocError>
+    requires leads { Leads encoding first_place before.old.items here }
+    requires sized { AreSized encoding after.old.items }
+    requires size { piece.size ≡ place_after encoding first_place piece.text.now }
+    requires up_to { is_past position here ≡ false }
+    requires past { is_past position (place_after encoding here piece.text.now) ≡ true }
+    requires short { here.offset + length piece.text.now ≤ longest }
+    ensures same { OnOk result (text_of before.new.items after.new.items
+        ≡ text_before before.old.items
+        ++ (piece.entry.text.now ++ text_after after.old.items)) }
+    ensures leads { IfOk result (Leads encoding first_place before.new.items) }
+    ensures sized { OnOk result (AreSized encoding after.new.items) }
+    ensures reaches { OnOk result (IsUpTo encoding first_place
+        (text_before before.old.items ++ (piece.entry.text.now ++ text_after after.old.items))
+        position (length (text_before before.new.items))) }
+{
+    let there = here.up_to(encoding, piece.text, position);
+    let (passed, rest) = piece.text.split_at(there.offset - here.offset);
+    let size = here.after_size(piece.size).size_from(there);
+    push_passed(before, passed, here)?;
+    after.push(Next { text: rest, size })?;
+    Ok(there)
 }
 
 /// Appends a piece that begins at a place, if it has something.
@@ -243,21 +315,24 @@ fn push_passed<'a>(
 }
 
 /// Takes out so many bytes of what comes next.
-fn skip<'a>(after: &mut Vec<&'a str>, count: usize) -> Result<(), AllocError>
-    requires { IsCharBoundary (text_after after.old.items) count }
-    ensures { OnOk result (text_after after.new.items ≡ drop count (text_after after.old.items)) }
+fn skip<'a>(after: &mut Vec<Next<'a>>, encoding: Encoding, count: usize) -> Result<(), AllocError>
+    requires bound { IsCharBoundary (text_after after.old.items) count }
+    requires short { length (text_after after.old.items) ≤ longest }
+    requires sized { AreSized encoding after.old.items }
+    ensures text { OnOk result
+        (text_after after.new.items ≡ drop count (text_after after.old.items)) }
+    ensures sized { OnOk result (AreSized encoding after.new.items) }
 {
     let mut left = count;
     'pieces: while left > 0 {
         let Some(piece) = after.pop() else {
             return Ok(());
         };
-        if left < piece.len() {
-            let (_, rest) = piece.split_at(left);
-            after.push(rest)?;
-            return Ok(());
+        if left < piece.text.len() {
+            let (_, rest) = piece.text.split_at(left);
+            return push_next(after, encoding, rest);
         }
-        left -= piece.len();
+        left -= piece.text.len();
     }
     Ok(())
 }

@@ -1,9 +1,8 @@
-use Rattle.std.proofs.Common.{◌≡◌, ◌∙◌, ◌+◌, ◌<◌, ◌≤◌, ℕ, length, refl, sym, subst, arith, inl, inr, true, false}
+use Rattle.std.proofs.Common.{◌≡◌, ◌∙◌, refl, sym, subst, arith, inl, inr, true}
 use Rattle.std.proofs.lemmas.Bool.{cases_lt}
 use Rattle.std.proofs.lemmas.Str.{IsCharBoundary-start}
-use Rattle.std.specs.Str.{IsCharBoundary}
 use Rattle.justfile_lines.specs.Going.{is_past}
-use Rattle.justfile_lines.proofs.Ahead.{count_is, ended, next_in_text, next_offset, next_place, not_a_bound, stopped}
+use Rattle.justfile_lines.proofs.Ahead.{count_is, next_in_text, next_offset, next_place, not_a_bound, stopped}
 use Rattle.justfile_lines.proofs.position.Place.up_to.Goals as goal
 
 pub bytes-init : goal.bytes-init
