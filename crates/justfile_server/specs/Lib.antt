@@ -1,5 +1,6 @@
 pub mod Choices
 pub mod Findings
+pub mod Fixes
 pub mod Links
 pub mod Mentioned
 pub mod Modules

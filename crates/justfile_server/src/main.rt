@@ -7,6 +7,7 @@ mod chunk;
 mod colors;
 mod commit;
 mod findings;
+mod fixes;
 mod justfiles;
 mod links;
 mod mentions;
