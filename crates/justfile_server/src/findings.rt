@@ -16,7 +16,7 @@ use text_parts::Part;
 /// The longest text, in bytes, that is looked at: at each change it is parsed as a whole, and what it
 /// says is looked at, which takes less time than one notices when typing. What is written by hand is
 /// shorter.
-const LIMIT: usize = 131_072;
+pub(crate) const LIMIT: usize = 131_072;
 
 /// Asks a justfile for what is wrong with what it says.
 #[derive(Drop)]

@@ -8,6 +8,7 @@ mod chunk;
 mod colors;
 mod commit;
 mod findings;
+mod fixes;
 mod justfiles;
 mod links;
 mod mentions;
