@@ -9,4 +9,4 @@ mod scopes;
 mod suspects;
 mod uses;
 
-pub use crate::facts::{Facts, facts_of};
+pub use crate::facts::facts_of;

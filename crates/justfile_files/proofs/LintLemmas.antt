@@ -1,26 +1,23 @@
 -- What is told of files in which something may be wrong, one after the other.
-use Rattle.std.proofs.Common.{◌≡◌, ◌⊎◌, inl, inr, ℕ, ◌+◌, ◌<◌, ◌≤◌, max, All, List, [], ◌∷◌, ◌++◌, length, map, take, get_or, unwrap_or, String, string_bytes, refl, sym, ap, subst, ◌∙◌}
+use Rattle.std.proofs.Common.{◌≡◌, IfErr, IfOk, Result, Ok, Err, Some, ◌⊎◌, inl, inr, ℕ, ◌+◌, ◌<◌, ◌≤◌, max, All, List, [], ◌∷◌, ◌++◌, length, map, take, get_or, unwrap_or, String, string_bytes, refl, sym, ap, subst, ◌∙◌}
 use Rattle.std.specs.List.{FoldsTo, flat_map}
 use Rattle.std.proofs.lemmas.List.{map-append}
 use Rattle.std.proofs.Common.{Global}
 use Rattle.justfile_files.specs.Failure.{IsMessage, TellFailure, failure_status}
 use Rattle.justfile_files.specs.FileResult.{IsRefused}
 use Rattle.justfile_files.specs.Folder.{Files, KeepsFiles}
-use Rattle.justfile_files.specs.Lint.{AreJudged, Holds, IsJudged, IsTrueOf, IsWritten, Judgement, Leaves, failed, judged, lost, messages_of, rejected, status_of}
+use Rattle.justfile_files.specs.Lint.{AreJudged, Finds, IsJudged, IsTrueOf, IsWritten, Judge, Judgement, Leaves, OfRead, Rejects, failed, judged, lost, messages_of, rejected, status_of}
 use Rattle.justfile_files.specs.Outcome.{greatest}
 use Rattle.justfile_files.specs.Request.{texts}
-use Rattle.justfile_files.specs.Visible.{visible_name}
+use Rattle.justfile_files.specs.Sources.{AreRead, Source}
 use Rattle.justfile_files.specs.declared.failure.Failure.{Failure}
 use Rattle.justfile_files.specs.declared.failure.Failure.TheVariants as failures
 use Rattle.justfile_files.proofs.OutcomeLemmas.{each_push, flat_map-push, folds_both, greatest-push, texts_all, texts_more}
 
-module _ (finds rejects : (name source lines : List ℕ) → Type 0) {O E : Type 0} (writes loses : O → List ℕ → O → Type 0) (tells : E → List ℕ → E → Type 0) where
-  -- a file whose bytes are known alike
-  same_file : (old new : Files) (name : List ℕ) (j : Judgement) → new name ≡ old name → IsTrueOf finds rejects new name j → IsTrueOf finds rejects old name j
-  same_file old new name (judged lines) e h = subst (λ b. Holds b (λ source. finds (visible_name name) source lines)) e h
-  same_file old new name (lost lines messages) e h = (subst (λ b. Holds b (λ source. finds (visible_name name) source lines)) e h.0, h.1)
-  same_file old new name (rejected lines) e h = subst (λ b. Holds b (λ source. rejects (visible_name name) source lines)) e h
-  same_file old new name (failed message) e h = h
+module _ (finds rejects : Judge) {O E : Type 0} (writes loses : O → List ℕ → O → Type 0) (tells : E → List ℕ → E → Type 0) where
+  -- files that are known alike
+  same_file : (old new : Files) (name : List ℕ) (j : Judgement) → KeepsFiles old new → IsTrueOf finds rejects new name j → IsTrueOf finds rejects old name j
+  same_file old new name j kept h = subst (λ (files : Files). IsTrueOf finds rejects files name j) (λ i. λ n. kept n i) h
 
   -- a file more
   pub one_judged : (old mid : Files) (words : List (String Global)) (i : ℕ) (word : String Global) (name : List ℕ)
@@ -34,7 +31,7 @@ module _ (finds rejects : (name source lines : List ℕ) → Type 0) {O E : Type
         judgements = so_far.judgements ++ s.judgement ∷ [];
         each =
             each_push (IsTrueOf finds rejects old) (IsTrueOf finds rejects old) (texts (take i words)) so_far.judgements name s.judgement (λ n j h. h) so_far.each
-            (same_file old mid name s.judgement (kept name) s.is_true);
+            (same_file old mid name s.judgement kept s.is_true);
         status_is =
             t ∙ ap (λ x. max x more) so_far.status_is ∙ ap (max (greatest (map status_of so_far.judgements))) s.status_is ∙ sym (greatest-push (map status_of so_far.judgements) (status_of s.judgement))
             ∙ ap greatest (sym (map-append status_of so_far.judgements (s.judgement ∷ [])));
@@ -49,7 +46,7 @@ module _ (finds rejects : (name source lines : List ℕ) → Type 0) {O E : Type
   all_judged old words i l {a} {b} {e} {f} {status} h = subst (λ (ns : List (List ℕ)). AreJudged finds rejects old writes loses tells ns a b e f status) (texts_all words i l) h
 
   -- a file whose lines are known
-  pub written_judged : (files : Files) (name lines : List ℕ) {a b : O} {e f : E} {status : ℕ} → Holds (files name) (λ source. finds (visible_name name) source lines)
+  pub written_judged : (files : Files) (name lines : List ℕ) {a b : O} {e f : E} {status : ℕ} → finds files name lines
       → IsWritten writes loses tells name lines a b e f status → IsJudged finds rejects files writes loses tells name a b e f status
   written_judged files name lines {a} {b} {e} {f} {status} h w = record { judgement = w.judgement; is_true = is_true w.judgement w.is; status_is = w.status_is; left = w.left; told = w.told }
     where
@@ -64,11 +61,11 @@ module _ (finds rejects : (name source lines : List ℕ) → Type 0) {O E : Type
 
   -- a file for which the task failed
   pub failure_judged : (files : Files) (name : List ℕ) {a : O} {e f : E} (failure : Failure) (messages : List (List ℕ))
-      → IsRefused (λ lines. Holds (files name) (λ source. rejects (visible_name name) source lines)) failure → TellFailure name failure messages → FoldsTo tells e messages f
+      → IsRefused (rejects files name) failure → TellFailure name failure messages → FoldsTo tells e messages f
       → (status : ℕ) → status ≡ unwrap_or (failure_status failure) 3 → IsJudged finds rejects files writes loses tells name a a e f status
   failure_judged files name {a} {e} {f} failure messages r t told status s = subst (IsJudged finds rejects files writes loses tells name a a e f) (sym s) (case failure r t)
     where
-      case : (x : Failure) → IsRefused (λ lines. Holds (files name) (λ source. rejects (visible_name name) source lines)) x → TellFailure name x messages
+      case : (x : Failure) → IsRefused (rejects files name) x → TellFailure name x messages
           → IsJudged finds rejects files writes loses tells name a a e f (unwrap_or (failure_status x) 3)
       case (failures.Rejected lines) r t =
           record { judgement = rejected (string_bytes lines); is_true = r; status_is = refl; left = refl; told = subst (λ l. FoldsTo tells e l f) t told }
@@ -77,3 +74,31 @@ module _ (finds rejects : (name source lines : List ℕ) → Type 0) {O E : Type
       case (failures.NotUtf8 place) r t = one_failed files name messages t told
       case (failures.Exhausted what) r t = one_failed files name messages t told
       case (failures.Replacing error) r t = one_failed files name messages t told
+
+module _ (leads : (path source : List ℕ) → List (List ℕ) → Type 0) (files : Files) (name : List ℕ) (read : List Source) (are : AreRead leads files name read) where
+  -- what is found in files that were read
+  pub read_found : {E : Type 0} (r : Result (String Global) E) (finds : List Source → (missing : List (List ℕ)) → (lines : List ℕ) → Type 0) (missing : List (List ℕ))
+      → IfOk r (λ lines. finds read missing (string_bytes lines)) → IfOk r (λ lines. Finds leads finds files name (string_bytes lines))
+  read_found (Ok lines) finds missing h = record { read = read; are = are; holds = (missing, h) }
+  read_found (Err failure) finds missing h = tt
+
+  refused_as : (rejects : List Source → (lines : List ℕ) → Type 0) (failure : Failure) → IsRefused (rejects read) failure → IsRefused (Rejects leads rejects files name) failure
+  refused_as rejects (failures.Rejected lines) h = record { read = read; are = are; holds = h }
+  refused_as rejects (failures.Writing error) h = h
+  refused_as rejects (failures.Reading error) h = h
+  refused_as rejects (failures.NotUtf8 place) h = h
+  refused_as rejects (failures.Exhausted what) h = h
+  refused_as rejects (failures.Replacing error) h = h
+
+  pub read_refused : {A : Type 0} (r : Result A Failure) (rejects : List Source → (lines : List ℕ) → Type 0) → IfErr r (IsRefused (rejects read)) → IfErr r (IsRefused (Rejects leads rejects files name))
+  read_refused (Ok lines) rejects h = tt
+  read_refused (Err failure) rejects h = refused_as rejects failure h
+
+-- a failure by which nothing is rejected
+pub no_refusal : (Holds : List ℕ → Type 0) (failure : Failure) → failure_status failure ≡ Some 3 → IsRefused Holds failure
+no_refusal Holds (failures.Rejected lines) h = cc
+no_refusal Holds (failures.Writing error) h = h
+no_refusal Holds (failures.Reading error) h = h
+no_refusal Holds (failures.NotUtf8 place) h = h
+no_refusal Holds (failures.Exhausted what) h = h
+no_refusal Holds (failures.Replacing error) h = h

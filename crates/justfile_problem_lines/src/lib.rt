@@ -3,5 +3,7 @@
 
 mod cursor;
 mod lines;
+mod module;
 
 pub use crate::lines::{all_lines, circle_lines, problem_lines};
+pub use crate::module::module_lines;
