@@ -49,5 +49,8 @@ abbrev pub plain_path : (path : List ℕ) → List ℕ
 plain_path path = plain_of (is_absolute path) (parts_of path)
 
 -- a path that is seen from the folder in which the file at another path is
+abbrev pub seen_from : (path named : List ℕ) → List ℕ
+seen_from path named = if is_absolute named then named else path ++ codes "/../" ++ named
+
 abbrev pub path_beside : (path named : List ℕ) → List ℕ
-path_beside path named = if is_absolute named then plain_path named else plain_path (path ++ codes "/../" ++ named)
+path_beside path named = plain_path (seen_from path named)

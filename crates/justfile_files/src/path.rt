@@ -1,6 +1,6 @@
 //! The paths of files that other files name.
-ghost use Rattle.std.specs.Prelude.{◌≡◌, IfOk, OnOk, string_bytes};
-ghost use Rattle.justfile_files.specs.Path.{begun, parts_of, path_beside, plain, plain_of, plain_path, shown, text_of, up, with_part};
+ghost use Rattle.std.specs.Prelude.{◌≡◌, ◌++◌, IfOk, OnOk, codes, string_bytes};
+ghost use Rattle.justfile_files.specs.Path.{begun, parts_of, path_beside, plain, plain_of, plain_path, seen_from, shown, text_of, up, with_part};
 
 use std::alloc::{AllocError, Global};
 
@@ -13,11 +13,26 @@ use std::alloc::{AllocError, Global};
 pub fn path_beside(alloc: Global, path: &str, named: &str) -> Result<String, AllocError>
     ensures { IfOk result (λ made. string_bytes made ≡ path_beside path.now named.now) }
 {
+    let path = seen_from(alloc, path, named)?;
+    plain_path(alloc, path.as_str())
+}
+
+/// Returns the path of a file that is seen from the folder in which the file at `path` is.
+fn seen_from(alloc: Global, path: &str, named: &str) -> Result<String, AllocError>
+    ensures { IfOk result (λ made. string_bytes made ≡ seen_from path.now named.now) }
+{
     if named.starts_with('/') {
-        return plain_path(alloc, named);
+        named.to_string(alloc)
+    } else {
+        seen_beside(alloc, path, named)
     }
-    let joined = format!(in alloc; "{path}/../{named}")?;
-    plain_path(alloc, joined.as_str())
+}
+
+/// Returns the same of a path that isn't seen from the top.
+fn seen_beside(alloc: Global, path: &str, named: &str) -> Result<String, AllocError>
+    ensures { IfOk result (λ made. string_bytes made ≡ path.now ++ codes "/../" ++ named.now) }
+{
+    format!(in alloc; "{path}/../{named}")
 }
 
 /// Returns a path without parts that say nothing: empty ones, `.`, and names with a `..` after them.

@@ -1,5 +1,6 @@
 -- The lines that tell what is wrong with the files of a module.
-use Rattle.std.specs.Prelude.{◌≡◌, ◌-◌, ◌||◌, ℕ, Bool, true, false, not, List, [], ◌∷◌, ◌++◌, IsPermutation, Option, None, Some, codes, length, map, slice_get, unwrap_or}
+use Rattle.std.specs.Prelude.{◌≡◌, ◌-◌, ◌||◌, ℕ, Bool, true, false, not, List, [], ◌∷◌, ◌++◌, IsPermutation, Option, None, Some, codes, length, map, slice_get, String, unwrap_or}
+use Rattle.std.specs.Global.{Global}
 use Rattle.std.specs.List.{AllZip, concat, flat_map, list_any}
 use Rattle.std.specs.List.Sorted.{IsNonDecreasingBy}
 use Rattle.std.specs.Option.{option_map}
@@ -19,6 +20,7 @@ use Rattle.justfile_problems.specs.declared.facts.Target.{Target}
 use Rattle.justfile_problems.specs.declared.facts.Target.TheVariants as targets
 use Rattle.justfile_problems.specs.declared.problem.Problem.{Problem}
 use Rattle.justfile_problem_lines.specs.Lines.{TellCircles, TellProblems}
+use Rattle.justfile_problem_lines.specs.Links.{all_links}
 
 -- ---- where imports lead
 
@@ -47,8 +49,11 @@ link_lines l = target_lines l l.optional l.target
 abbrev pub definitions_of : ModuleFile → List Definition
 definitions_of f = f.facts.definitions.items
 
+-- those of all files, unless one is alone: it shares them with none
 abbrev pub definitions_in : List ModuleFile → List Definition
-definitions_in files = flat_map definitions_of files
+definitions_in [] = []
+definitions_in (f ∷ []) = []
+definitions_in (f ∷ g ∷ files) = flat_map definitions_of (f ∷ g ∷ files)
 
 abbrev pub rules_in : (more : Bool) → List ModuleFile → Rules
 rules_in more files = joined more (map (λ (f : ModuleFile). f.facts.rules) files)
@@ -115,7 +120,7 @@ pub record TellImports (files : List ModuleFile) (links : List Link) (lines : Li
 
 -- ---- all
 
-pub record TellModule (imported : Bool) (files : List ModuleFile) (links : List Link) (lines : List ℕ) : Type 0 where
+pub record TellLinked (imported : Bool) (files : List ModuleFile) (links : List Link) (lines : List ℕ) : Type 0 where
   pub of_parts : List ℕ
   pub of_circles : List ℕ
   pub of_imports : List ℕ
@@ -123,3 +128,7 @@ pub record TellModule (imported : Bool) (files : List ModuleFile) (links : List 
   pub circles_told : TellCirclesOf files of_circles
   pub imports_told : TellImports files links of_imports
   pub are : lines ≡ flat_map link_lines links ++ of_parts ++ of_circles ++ of_imports
+
+-- all that is wrong with a file, the first one, and those that it imports
+abbrev pub TellModule : (imported : Bool) → List ModuleFile → (missing : List (String Global)) → (lines : List ℕ) → Type 0
+TellModule imported files missing lines = TellLinked imported files (all_links files missing) lines

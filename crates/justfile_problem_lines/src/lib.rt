@@ -3,6 +3,7 @@
 
 mod cursor;
 mod lines;
+mod links;
 mod module;
 
 pub use crate::lines::{all_lines, circle_lines, problem_lines};

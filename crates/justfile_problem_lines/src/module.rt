@@ -1,9 +1,10 @@
 //! The lines that tell what is wrong with the files of a module.
 ghost use Rattle.std.specs.Prelude.{◌≡◌, ◌++◌, IfOk, OnOk, string_bytes};
 ghost use Rattle.std.specs.List.{flat_map};
-ghost use Rattle.justfile_problem_lines.specs.Modules.{TellCirclesOf, TellCirclesOfFile, TellImports, TellModule, TellPart, TellParts, definitions_in, definitions_of, edge_text, edges_in, edges_of, last_step, leads_to_file, link_lines, may_be_more, name_at, ring_lines, rules_in};
+ghost use Rattle.justfile_problem_lines.specs.Modules.{TellCirclesOf, TellCirclesOfFile, TellImports, TellLinked, TellModule, TellPart, TellParts, definitions_in, definitions_of, edge_text, edges_in, edges_of, last_step, leads_to_file, link_lines, may_be_more, name_at, ring_lines, rules_in};
 
 use crate::lines::{append, circle_lines, problem_lines};
+use crate::links::all_links;
 use circles::{Edge, find_circles};
 use justfile_problems::{
     Definition, Facts, Link, ModuleFile, Rules, Target, circles_of, joined, problems_within,
@@ -12,9 +13,9 @@ use std::alloc::{AllocError, Global};
 
 /// Returns the lines that tell what is wrong with a file, the first one, and those that it imports:
 /// first the imports that lead to no file, then each file's problems, the circles of the first one,
-/// and the circles of imports. `links` are the imports of all files, and `imported` is whether yet
-/// another file may import the first one. If it is, or if an import leads to no file, then names that
-/// they lack aren't wrong.
+/// and the circles of imports. `imported` is whether yet another file may import the first one, and
+/// at the paths `missing` there is no file. If it may be imported, or if an import leads to none of
+/// the files, then names that they lack aren't wrong.
 ///
 /// # Errors
 ///
@@ -23,10 +24,24 @@ pub fn module_lines(
     alloc: Global,
     imported: bool,
     files: &[ModuleFile<'_>],
+    missing: &[String],
+) -> Result<String, AllocError>
+    ensures { IfOk result
+        (λ lines. TellModule imported files.now missing.now (string_bytes lines)) }
+{
+    let links = all_links(alloc, files, missing)?;
+    linked_lines(alloc, imported, files, &links)
+}
+
+/// Returns these lines, where the imports are these.
+fn linked_lines(
+    alloc: Global,
+    imported: bool,
+    files: &[ModuleFile<'_>],
     links: &[Link<'_>],
 ) -> Result<String, AllocError>
     ensures { IfOk result
-        (λ lines. TellModule imported files.now links.now (string_bytes lines)) }
+        (λ lines. TellLinked imported files.now links.now (string_bytes lines)) }
 {
     let mut lines = missing_lines(alloc, links)?;
     let parts = part_lines(alloc, imported || may_be_more(links), files)?;
@@ -91,17 +106,30 @@ fn push_definitions<'src>(
 
 /// Returns the definitions of files, one file after the other.
 #[tactic(auto, using(std::proofs::lemmas::List::flat_map_more, std::proofs::lemmas::List::take_more))]
-fn definitions_in<'src>(
+fn all_definitions<'src>(
     alloc: Global,
     files: &[ModuleFile<'src>],
 ) -> Result<Vec<Definition<'src>>, AllocError>
-    ensures { IfOk result (λ all. all.items ≡ definitions_in files.now) }
+    ensures { IfOk result (λ all. all.items ≡ flat_map definitions_of files.now) }
 {
     let mut all = Vec::new(alloc);
     for file in files {
         push_definitions(file, &mut all)?;
     }
     Ok(all)
+}
+
+/// Returns the definitions that files share: none if there is one alone.
+fn definitions_in<'src>(
+    alloc: Global,
+    files: &[ModuleFile<'src>],
+) -> Result<Vec<Definition<'src>>, AllocError>
+    ensures { IfOk result (λ all. all.items ≡ definitions_in files.now) }
+{
+    match files {
+        [] | [_] => Ok(Vec::new(alloc)),
+        [_, _, ..] => all_definitions(alloc, files),
+    }
 }
 
 /// Returns what files allow together. Other ones may define names, or not.

@@ -1,5 +1,5 @@
 -- All problems, from tables that have the first definitions.
-use Rattle.std.proofs.Common.{◌≡◌, ◌∙◌, ◌++◌, List, [], ap, IsPermutation, OnOk, Result, subst}
+use Rattle.std.proofs.Common.{◌≡◌, ◌∙◌, ◌<◌, ◌++◌, Global, IfOk, List, [], ◌∷◌, Vec, ap, arith, length, IsPermutation, OnOk, Result, subst}
 use Rattle.justfile_problems.specs.declared.facts.Definition.{Definition}
 use Rattle.justfile_problems.specs.declared.facts.Rules.{Rules}
 use Rattle.justfile_problems.specs.declared.facts.Suspect.{Suspect}
@@ -38,3 +38,9 @@ within_found rules names all own known_here us ss a b c d is h ea eb ec p =
     subst (λ l. IsPermutation l d)
     (ec ∙ ap (λ l. l ++ of_suspects) (eb ∙ ap (λ l. l ++ of_uses) ea)
     ∙ ap (λ k. of_own ++ use_problems rules k us ++ suspect_problems rules k ss) (are_known names known_here h ∙ ap first is)) p
+
+-- a file that shares nothing
+pub alone : {E : Type 0} (r : Result (Vec Problem Global) E) (rules : Rules) (all own : List Definition) (us : List Use) (ss : List Suspect) → length all < 1
+    → IfOk r (λ found. IsPermutation (all_problems rules own us ss) found.items) → IfOk r (λ found. IsPermutation (problems_within rules all own us ss) found.items)
+alone r rules [] own us ss none h = h
+alone r rules (d ∷ ds) own us ss none h = absurd (omega arith)

@@ -175,13 +175,31 @@ pub struct Link<'src> {
     pub token: Token<'src>,
 }
 
+/// An import, as it is written.
+#[derive(Drop)]
+pub struct Import<'src> {
+    /// The path as it is meant: without delimiters, and with escapes replaced.
+    pub path: String,
+    /// Whether the path leads to the file as it is: it isn't expanded as in a shell, and doesn't begin
+    /// with `~`.
+    pub plain: bool,
+    /// Whether the file need not exist.
+    pub optional: bool,
+    /// The token of the path.
+    pub token: Token<'src>,
+}
+
 /// A file of a module.
 #[derive(Drop)]
 pub struct ModuleFile<'src> {
     /// Its name in messages.
     pub name: &'src str,
+    /// Its path, by which others import it.
+    pub path: &'src str,
     /// Its text.
     pub source: &'src str,
     /// What it says of names.
     pub facts: Facts<'src>,
+    /// Its imports.
+    pub imports: Vec<Import<'src>>,
 }

@@ -20,7 +20,8 @@ mod uses;
 
 pub use crate::circular::{Circle, circles_of};
 pub use crate::facts::{
-    Definition, Facts, Link, ModuleFile, Role, Rules, Space, Suspect, SuspectKind, Target, Use,
+    Definition, Facts, Import, Link, ModuleFile, Role, Rules, Space, Suspect, SuspectKind, Target,
+    Use,
 };
 pub use crate::listing::problems;
 pub use crate::module::{joined, problems_within};

@@ -1,30 +1,72 @@
 //! The problems of a file that is one of several of a module.
 ghost use Rattle.std.specs.Prelude.{◌≡◌, ◌++◌, IfOk, IsPermutation, OnOk};
-ghost use Rattle.std.specs.List.{flat_map};
+ghost use Rattle.std.specs.List.{flat_map, list_any};
 ghost use Rattle.std.specs.List.Sorted.{IsNonDecreasingBy};
 ghost use Rattle.justfile_problems.specs.Names.{first};
 ghost use Rattle.justfile_problems.specs.Problems.{definition_problems, is_shared, joined, problems_within, shared_of, within};
 
 use crate::facts::{Definition, Rules, Space, Suspect, Use};
-use crate::listing::{push_of_definitions, push_of_suspects, push_of_uses};
+use crate::listing::{problems, push_of_definitions, push_of_suspects, push_of_uses};
 use crate::names::Names;
 use crate::problem::Problem;
 use std::alloc::{AllocError, Global};
 
-/// Returns what files allow together. `may_be_more` is whether other ones
-/// may define names and set settings.
+/// Returns what files allow together. `may_be_more` is whether other ones may define names and set
+/// settings.
 pub fn joined(rules: &[Rules], may_be_more: bool) -> Rules
     ensures { result ≡ joined may_be_more rules.now }
 {
     Rules {
-        default_script: rules.iter().any(|rules| rules.default_script),
-        duplicate_recipes: rules.iter().any(|rules| rules.duplicate_recipes),
-        duplicate_variables: rules.iter().any(|rules| rules.duplicate_variables),
-        guards: rules.iter().any(|rules| rules.guards),
-        ignore_comments: rules.iter().any(|rules| rules.ignore_comments),
-        lists: rules.iter().any(|rules| rules.lists),
+        default_script: makes_scripts(rules),
+        duplicate_recipes: repeats_recipes(rules),
+        duplicate_variables: repeats_variables(rules),
+        guards: has_guards(rules),
+        ignore_comments: ignores_comments(rules),
+        lists: has_lists(rules),
         open: may_be_more,
     }
+}
+
+/// Whether recipes are run as scripts by one of these rules.
+fn makes_scripts(rules: &[Rules]) -> bool
+    ensures { result ≡ list_any (λ r. r.default_script) rules.now }
+{
+    rules.iter().any(|rules| rules.default_script)
+}
+
+/// Whether recipes may be defined twice by one of these rules.
+fn repeats_recipes(rules: &[Rules]) -> bool
+    ensures { result ≡ list_any (λ r. r.duplicate_recipes) rules.now }
+{
+    rules.iter().any(|rules| rules.duplicate_recipes)
+}
+
+/// Whether variables may be defined twice by one of these rules.
+fn repeats_variables(rules: &[Rules]) -> bool
+    ensures { result ≡ list_any (λ r. r.duplicate_variables) rules.now }
+{
+    rules.iter().any(|rules| rules.duplicate_variables)
+}
+
+/// Whether `?` is a sigil by one of these rules.
+fn has_guards(rules: &[Rules]) -> bool
+    ensures { result ≡ list_any (λ r. r.guards) rules.now }
+{
+    rules.iter().any(|rules| rules.guards)
+}
+
+/// Whether lines that begin with `#` are comments by one of these rules.
+fn ignores_comments(rules: &[Rules]) -> bool
+    ensures { result ≡ list_any (λ r. r.ignore_comments) rules.now }
+{
+    rules.iter().any(|rules| rules.ignore_comments)
+}
+
+/// Whether values can be lists by one of these rules.
+fn has_lists(rules: &[Rules]) -> bool
+    ensures { result ≡ list_any (λ r. r.lists) rules.now }
+{
+    rules.iter().any(|rules| rules.lists)
 }
 
 /// Whether the files of a module share the names of a set.
@@ -92,15 +134,35 @@ fn push_of_own<'src>(
     push_of_definitions(rules, &names, own, found)
 }
 
-/// Returns all that is wrong with a file of a module, in the order of the text. The files that it is
-/// joined with define `all`, and it defines `own` itself, which is judged by itself: a definition in
-/// another file is none that a name is defined twice by. Where several files define a name, the first
-/// one in `all` counts.
+/// Returns all that is wrong with a file of a module, in the order of the text. The module's files
+/// define `all`, and it defines `own` itself, which is judged by itself: a definition in another file
+/// is none that a name is defined twice by. Where several files define a name, the first one in `all`
+/// counts. For a file alone `all` may be empty.
 ///
 /// # Errors
 ///
 /// `AllocError` if memory runs out.
 pub fn problems_within<'src>(
+    alloc: Global,
+    rules: Rules,
+    all: &[Definition<'src>],
+    own: &[Definition<'src>],
+    uses: &[Use<'src>],
+    suspects: &[Suspect<'src>],
+) -> Result<Vec<Problem<'src>>, AllocError>
+    ensures all { IfOk result (λ found. IsPermutation
+        (problems_within rules all.now own.now uses.now suspects.now) found.items) }
+    ensures in_order { IfOk result
+        (λ found. IsNonDecreasingBy (λ p. p.token.offset) found.items) }
+{
+    match all {
+        [] => problems(alloc, rules, own, uses, suspects),
+        [_, ..] => problems_beside(alloc, rules, all, own, uses, suspects),
+    }
+}
+
+/// Returns the same, where the file isn't alone.
+fn problems_beside<'src>(
     alloc: Global,
     rules: Rules,
     all: &[Definition<'src>],
