@@ -84,7 +84,7 @@ fn push_enabled<'src>(
 }
 
 /// Appends an import.
-#[tactic(auto, using(std::proofs::lemmas::List::map-append))]
+#[tactic(auto, using(crate::proofs::Imported::one_more))]
 fn push_import<'src>(
     optional: bool,
     relative: &StringLiteral<'src>,

@@ -16,6 +16,10 @@ is_at path f = bytes_eq f.path.now path
 abbrev pub is_text : (text : List ℕ) → String Global → Bool
 is_text text other = bytes_eq (string_bytes other) text
 
+-- the path to which an import leads of the file at another path, where that is known
+abbrev pub paths_at : (path : List ℕ) → Import → List (List ℕ)
+paths_at path i = cond i.plain (path_beside path (string_bytes i.path) ∷ []) []
+
 -- what is at a path, if none of the files is: nothing if that is known
 abbrev pub without_file : (missing : List (String Global)) → (path : List ℕ) → Target
 without_file missing path = cond (list_any (is_text path) missing) targets.Nothing targets.Unknown

@@ -7,4 +7,5 @@ mod links;
 mod module;
 
 pub use crate::lines::{all_lines, circle_lines, problem_lines};
+pub use crate::links::import_paths;
 pub use crate::module::module_lines;

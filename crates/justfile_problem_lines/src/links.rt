@@ -1,11 +1,49 @@
 //! Where the imports of a module's files lead.
-ghost use Rattle.std.specs.Prelude.{◌≡◌, ◌++◌, IfOk, OnOk};
+ghost use Rattle.std.specs.Prelude.{◌≡◌, ◌++◌, IfOk, OnOk, map, string_bytes};
 ghost use Rattle.std.specs.List.{flat_map, list_any, position};
-ghost use Rattle.justfile_problem_lines.specs.Links.{all_links, file_links, is_at, is_text, link_of, target_at, target_of, without_file};
+ghost use Rattle.justfile_problem_lines.specs.Links.{all_links, file_links, is_at, is_text, link_of, paths_at, target_at, target_of, without_file};
 
 use justfile_files::path::path_beside;
 use justfile_problems::{Import, Link, ModuleFile, Target};
 use std::alloc::{AllocError, Global};
+
+/// Returns the paths of the files to which the imports lead of the file at a path, where that is known.
+///
+/// # Errors
+///
+/// `AllocError` if memory runs out.
+#[tactic(auto, using(std::proofs::lemmas::List::flat_map_more, std::proofs::lemmas::List::take_more))]
+pub fn import_paths(
+    alloc: Global,
+    path: &str,
+    imports: &[Import<'_>],
+) -> Result<Vec<String>, AllocError>
+    ensures { IfOk result (λ paths.
+        map string_bytes paths.items ≡ flat_map (paths_at path.now) imports.now) }
+{
+    let mut paths = Vec::new(alloc);
+    for import in imports {
+        push_path(alloc, path, import, &mut paths)?;
+    }
+    Ok(paths)
+}
+
+/// Appends the path of the file to which an import leads, if that is known.
+#[tactic(auto, using(crate::proofs::Paths::one_more))]
+fn push_path(
+    alloc: Global,
+    path: &str,
+    import: &Import<'_>,
+    paths: &mut Vec<String>,
+) -> Result<(), AllocError>
+    ensures { OnOk result (map string_bytes paths.new.items
+        ≡ map string_bytes paths.old.items ++ paths_at path.now import.now) }
+{
+    if import.plain {
+        paths.push(path_beside(alloc, path, import.path.as_str())?)?;
+    }
+    Ok(())
+}
 
 /// Returns where the imports of files lead, one file after the other. At the paths `missing` there is
 /// no file.
