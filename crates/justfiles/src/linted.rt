@@ -78,6 +78,7 @@ fn may_first_be_imported(files: &[SourceFile]) -> bool
 }
 
 /// Returns what the files say.
+#[tactic(auto, using(crate::proofs::Told::one_part, crate::proofs::Told::rejected_at))]
 fn parts_of<'src>(
     alloc: Global,
     files: &'src [SourceFile],
@@ -87,8 +88,10 @@ fn parts_of<'src>(
 {
     let mut parts = Vec::new(alloc);
     for file in files {
-        let part = part_of(alloc, file)?;
-        push_part(part, &mut parts)?;
+        match part_of(alloc, file) {
+            Ok(part) => push_part(part, &mut parts)?,
+            Err(refusal) => return Err(refusal),
+        }
     }
     Ok(parts)
 }
