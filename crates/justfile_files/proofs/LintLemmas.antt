@@ -1,15 +1,14 @@
 -- What is told of files in which something may be wrong, one after the other.
-use Rattle.std.proofs.Common.{◌≡◌, IfErr, IfOk, Result, Ok, Err, Some, ◌⊎◌, inl, inr, ℕ, ◌+◌, ◌<◌, ◌≤◌, max, All, List, [], ◌∷◌, ◌++◌, length, map, take, get_or, unwrap_or, String, string_bytes, refl, sym, ap, subst, ◌∙◌}
+use Rattle.std.proofs.Common.{◌≡◌, ◌⊎◌, inl, inr, ℕ, ◌+◌, ◌<◌, ◌≤◌, max, All, List, [], ◌∷◌, ◌++◌, length, map, take, get_or, unwrap_or, String, string_bytes, refl, sym, ap, subst, ◌∙◌}
 use Rattle.std.specs.List.{FoldsTo, flat_map}
 use Rattle.std.proofs.lemmas.List.{map-append}
 use Rattle.std.proofs.Common.{Global}
 use Rattle.justfile_files.specs.Failure.{IsMessage, TellFailure, failure_status}
 use Rattle.justfile_files.specs.FileResult.{IsRefused}
 use Rattle.justfile_files.specs.Folder.{Files, KeepsFiles}
-use Rattle.justfile_files.specs.Lint.{AreJudged, Finds, IsJudged, IsTrueOf, IsWritten, Judge, Judgement, Leaves, OfRead, Rejects, failed, judged, lost, messages_of, rejected, status_of}
+use Rattle.justfile_files.specs.Lint.{AreJudged, IsJudged, IsTrueOf, IsWritten, Judge, Judgement, Leaves, failed, judged, lost, messages_of, rejected, status_of}
 use Rattle.justfile_files.specs.Outcome.{greatest}
 use Rattle.justfile_files.specs.Request.{texts}
-use Rattle.justfile_files.specs.Sources.{AreRead, Source}
 use Rattle.justfile_files.specs.declared.failure.Failure.{Failure}
 use Rattle.justfile_files.specs.declared.failure.Failure.TheVariants as failures
 use Rattle.justfile_files.proofs.OutcomeLemmas.{each_push, flat_map-push, folds_both, greatest-push, texts_all, texts_more}
@@ -74,31 +73,3 @@ module _ (finds rejects : Judge) {O E : Type 0} (writes loses : O → List ℕ �
       case (failures.NotUtf8 place) r t = one_failed files name messages t told
       case (failures.Exhausted what) r t = one_failed files name messages t told
       case (failures.Replacing error) r t = one_failed files name messages t told
-
-module _ (leads : (path source : List ℕ) → List (List ℕ) → Type 0) (files : Files) (name : List ℕ) (read : List Source) (are : AreRead leads files name read) where
-  -- what is found in files that were read
-  pub read_found : {E : Type 0} (r : Result (String Global) E) (finds : List Source → (missing : List (List ℕ)) → (lines : List ℕ) → Type 0) (missing : List (List ℕ))
-      → IfOk r (λ lines. finds read missing (string_bytes lines)) → IfOk r (λ lines. Finds leads finds files name (string_bytes lines))
-  read_found (Ok lines) finds missing h = record { read = read; are = are; holds = (missing, h) }
-  read_found (Err failure) finds missing h = tt
-
-  refused_as : (rejects : List Source → (lines : List ℕ) → Type 0) (failure : Failure) → IsRefused (rejects read) failure → IsRefused (Rejects leads rejects files name) failure
-  refused_as rejects (failures.Rejected lines) h = record { read = read; are = are; holds = h }
-  refused_as rejects (failures.Writing error) h = h
-  refused_as rejects (failures.Reading error) h = h
-  refused_as rejects (failures.NotUtf8 place) h = h
-  refused_as rejects (failures.Exhausted what) h = h
-  refused_as rejects (failures.Replacing error) h = h
-
-  pub read_refused : {A : Type 0} (r : Result A Failure) (rejects : List Source → (lines : List ℕ) → Type 0) → IfErr r (IsRefused (rejects read)) → IfErr r (IsRefused (Rejects leads rejects files name))
-  read_refused (Ok lines) rejects h = tt
-  read_refused (Err failure) rejects h = refused_as rejects failure h
-
--- a failure by which nothing is rejected
-pub no_refusal : (Holds : List ℕ → Type 0) (failure : Failure) → failure_status failure ≡ Some 3 → IsRefused Holds failure
-no_refusal Holds (failures.Rejected lines) h = cc
-no_refusal Holds (failures.Writing error) h = h
-no_refusal Holds (failures.Reading error) h = h
-no_refusal Holds (failures.NotUtf8 place) h = h
-no_refusal Holds (failures.Exhausted what) h = h
-no_refusal Holds (failures.Replacing error) h = h

@@ -27,6 +27,10 @@ use std::alloc::{AllocError, Global};
 pub(crate) fn paths_in(alloc: Global, path: &str, source: &str) -> Result<Vec<String>, AllocError>
     ensures { IfOk result (λ paths. LeadTo path.now source.now (map string_bytes paths.items)) }
 {
+    // without the word there is no import, and nothing to parse
+    if !source.contains("import") {
+        return Ok(Vec::new(alloc));
+    }
     match parse(alloc, path, source) {
         Ok(ast) => {
             let mut ast = ast;
