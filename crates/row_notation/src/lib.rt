@@ -10,7 +10,6 @@ mod fields;
 mod literal;
 mod names;
 mod rejection;
-mod row;
 mod run;
 mod stream;
 mod text;
