@@ -99,43 +99,60 @@ pub(crate) fn judge_text(answer: Result<String, AllocError>) -> Outcome {
     }
 }
 
-/// Lexes the text with `size` bytes of memory, and compares the result with these tokens.
+/// Writes a line if there is a runtime, whether that succeeds or not: no call may depend on it.
+fn mark(rt: Option<&HostRuntime>, line: &str) {
+    if let Some(rt) = rt {
+        let _ = println!(rt; "{line}");
+    }
+}
+
+/// Lexes the text with `size` bytes of memory, between two lines, and compares the result with these
+/// tokens.
 pub(crate) fn lex_with<'src>(
+    rt: Option<&HostRuntime>,
     alloc: Global,
     scarcity: &mut Scarcity,
     size: usize,
     text: &'src str,
     tokens: &[Token<'src>],
 ) -> Outcome {
+    mark(rt, "lexing");
     scarcity.leave(alloc, size);
     let answer = lex(alloc, text);
     scarcity.end();
+    mark(rt, "lexed");
     judge_tokens(answer, tokens)
 }
 
-/// Parses the text with `size` bytes of memory, and checks the result.
+/// Parses the text with `size` bytes of memory, between two lines, and checks the result.
 pub(crate) fn parse_with(
+    rt: Option<&HostRuntime>,
     alloc: Global,
     scarcity: &mut Scarcity,
     size: usize,
     text: &str,
 ) -> Outcome {
     let mut numerator = Numerator::new(0);
+    mark(rt, "parsing");
     scarcity.leave(alloc, size);
     let answer = parse(alloc, &mut numerator, text);
     scarcity.end();
+    mark(rt, "parsed");
     judge_file(answer, alloc, &mut numerator)
 }
 
-/// Prints the file with `size` bytes of memory, and checks the result.
+/// Prints the file with `size` bytes of memory, between two lines, and checks the result.
 pub(crate) fn print_with(
     ast: &Ast<'_>,
+    rt: Option<&HostRuntime>,
     alloc: Global,
     scarcity: &mut Scarcity,
     size: usize,
 ) -> Outcome {
+    mark(rt, "printing");
     scarcity.leave(alloc, size);
     let answer = ast.print(alloc, Indentation::default());
     scarcity.end();
+    mark(rt, "printed");
     judge_text(answer)
 }
