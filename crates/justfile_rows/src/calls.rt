@@ -3,12 +3,11 @@
 use crate::files::push_next;
 use crate::question::{Question, push_parsed};
 use justfile_syntax::expander::Unchanged;
-use justfile_syntax::lexer::Lexer;
 use justfile_syntax::namepath::Namepath;
 use justfile_syntax::numerator::Numerator;
 use justfile_syntax::parser::{Parser, RECURSION_LIMIT, parse_root_with};
 use justfile_syntax::version::Version;
-use row_notation::{Answer, field_at, number_at, path_of};
+use row_notation::{Answer, field_at, number_at, path_of, tokens_of};
 
 /// Parses the tokens of a text as the file of the module with a path. Writes the file's module, its
 /// working directory and its items.
@@ -21,9 +20,10 @@ pub(crate) fn in_module(answer: &mut Answer, fields: &[String]) {
 
 /// Parses the tokens of a text as the file of the module with a path.
 fn push_of_path(answer: &mut Answer, path: &Namepath<'_>, text: &str) {
-    let Ok(tokens) = Lexer::lex(answer.alloc(), "justfile", text) else {
+    let tokens = tokens_of(answer.alloc(), text);
+    if tokens.is_empty() {
         return answer.push("none");
-    };
+    }
     let parsed = Parser::parse(
         answer.alloc(),
         3,

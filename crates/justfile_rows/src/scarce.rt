@@ -11,7 +11,7 @@ mod counts;
 mod scarcity;
 mod text;
 
-use crate::scarce::answers::{lex, lex_with, parse, parse_with, print_with};
+use crate::scarce::answers::{lex_with, parse, parse_with, print_with};
 use crate::scarce::counts::Counts;
 use crate::scarce::scarcity::{AMPLE, Scarcity};
 use crate::scarce::text::TEXT;
@@ -19,7 +19,7 @@ use justfile_syntax::ast::Ast;
 use justfile_syntax::numerator::Numerator;
 use justfile_syntax::parser::release;
 use justfile_syntax::token::Token;
-use row_notation::Answer;
+use row_notation::{Answer, tokens_of};
 use std::alloc::Global;
 use std::io;
 
@@ -101,7 +101,8 @@ fn sweep<'src>(
 
 /// Makes the calls for a justfile, and counts their outcomes.
 fn run(rt: Option<&HostRuntime>, alloc: Global, text: &str, outcomes: &mut Outcomes) {
-    if let Ok(tokens) = lex(alloc, text) {
+    let tokens = tokens_of(alloc, text);
+    if !tokens.is_empty() {
         run_with(rt, alloc, text, &tokens, outcomes);
     }
 }

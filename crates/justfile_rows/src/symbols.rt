@@ -11,10 +11,7 @@ use row_notation::{Answer, push_fault};
 /// file has others, and `read` if the file that is lent to an inspector does.
 pub(crate) fn push_symbols_of(answer: &mut Answer, text: &str) {
     let mut found = Answer::new(answer.alloc());
-    match symbols(answer.alloc(), "justfile", text) {
-        Ok(symbols) => push_symbols(&mut found, &symbols),
-        Err(fault) => push_fault(&mut found, text, &fault),
-    }
+    push_found(&mut found, text);
     answer.push_all(&found);
     let mut parsed = Answer::new(answer.alloc());
     push_outline_of(&mut parsed, text);
@@ -22,6 +19,14 @@ pub(crate) fn push_symbols_of(answer: &mut Answer, text: &str) {
     let mut read = Answer::new(answer.alloc());
     push_inspected(&mut read, text);
     answer.push_unless("read", &read, &found);
+}
+
+/// Writes the symbols that a call returns for a text.
+fn push_found(answer: &mut Answer, text: &str) {
+    match symbols(answer.alloc(), "justfile", text) {
+        Ok(symbols) => push_symbols(answer, &symbols),
+        Err(fault) => push_fault(answer, text, &fault),
+    }
 }
 
 /// Writes the outline of the file that a text is parsed to.
