@@ -93,7 +93,7 @@ fn go_on(
     requires start { IsPartStart text.now start }
     requires end { IsEnd text.now start end }
     requires within { end < length text.now }
-    requires rejected { TellsWhy (read_of text.now start end) rejection.entry.problem }
+    requires rejected { TellsWhy (read_of text.now start end) rejection.problem }
     ensures { IfOk result (IsAttempt text.now start end) }
 {
     match end_after(text.as_bytes(), start, end, step, rejection.cause) {

@@ -25,7 +25,7 @@ fn wrong_part(
 ) -> Result<Part<Known>, AllocError>
     requires start { IsPartStart text.now start }
     requires end { IsEnd text.now start end }
-    requires rejected { TellsWhy (read_of text.now start end) rejection.entry.problem }
+    requires rejected { TellsWhy (read_of text.now start end) rejection.problem }
     ensures { IfOk result (IsFound text.now start) }
 {
     let at = error_place(start, end, &rejection);
@@ -54,7 +54,7 @@ pub(crate) fn refused_part(
 ) -> Result<Part<Known>, AllocError>
     requires start { IsPartStart text.now start }
     requires end { IsEnd text.now start end }
-    requires rejected { TellsWhy (read_of text.now start end) rejection.entry.problem }
+    requires rejected { TellsWhy (read_of text.now start end) rejection.problem }
     ensures { IfOk result (IsFound text.now start) }
 {
     let first = first_end(text.as_bytes(), start);
