@@ -139,19 +139,18 @@ fn push_with_keys<'src>(
     count: usize,
 ) {
     match arguments(answer.alloc(), name, count) {
-        Ok(arguments) => push_result(
-            answer,
-            name.src,
-            Attribute::new(answer.alloc(), name, kind, arguments, keys),
-        ),
+        Ok(arguments) => {
+            let made = Attribute::new(answer.alloc(), name, kind, arguments, keys);
+            push_result(answer, name.src, &made);
+        }
         Err(_) => answer.fail(),
     }
 }
 
 /// Writes an attribute, or why there is none.
-fn push_result(answer: &mut Answer, text: &str, made: CompileResult<'_, Attribute<'_>>) {
+fn push_result<'src>(answer: &mut Answer, text: &str, made: &CompileResult<'src, Attribute<'src>>) {
     match made {
-        Ok(attribute) => answer.push_display(&attribute),
-        Err(fault) => push_fault(answer, text, &fault),
+        Ok(attribute) => answer.push_display(attribute),
+        Err(fault) => push_fault(answer, text, fault),
     }
 }
