@@ -1,3 +1,4 @@
+pub mod More
 pub mod Paths
 pub mod Rests
 pub mod Told
