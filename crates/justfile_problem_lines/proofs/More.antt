@@ -10,7 +10,3 @@ one_later f xs i x start old new inside at so_far e =
     e ∙ ap (λ l. l ++ f x) so_far ∙ append_assoc start (flat_map f (take i xs)) (f x)
     ∙ sym (ap (λ l. start ++ flat_map f l) (take_more xs i x inside ∙ ap (λ y. take i xs ++ y ∷ []) (sym at))
     ∙ ap (λ l. start ++ l) (flat_map-append f (take i xs) (x ∷ []) ∙ ap (λ l. flat_map f (take i xs) ++ l) (append-nil (f x))))
-
--- two texts that were appended to a third one
-pub appended : (start first second middle end : List ℕ) → middle ≡ start ++ first → end ≡ middle ++ second → end ≡ start ++ (first ++ second)
-appended start first second middle end p q = q ∙ ap (λ l. l ++ second) p ∙ append_assoc start first second
