@@ -8,6 +8,7 @@ use Rattle.circles.specs.FirstCircles.{AreFirstCircles}
 use Rattle.circles.specs.declared.circle.Circle.{Circle as Ring}
 use Rattle.circles.specs.declared.edge.Edge.{Edge}
 use Rattle.justfile_token.specs.Excerpt.{excerpt_text}
+use Rattle.justfile_token.specs.declared.token.Token.{Token}
 use Rattle.justfile_problems.specs.Circular.{AreCirclesOf}
 use Rattle.justfile_problems.specs.Problems.{joined, problems_within}
 use Rattle.justfile_problems.specs.declared.circular.Circle.{Circle}
@@ -36,9 +37,12 @@ leads_to_file l = is_file l.target
 abbrev pub may_be_more : List Link → Bool
 may_be_more links = list_any (λ (l : Link). not (leads_to_file l)) links
 
+abbrev pub no_file_text : Token → List ℕ
+no_file_text t = codes "error: could not find source file for import\n" ++ excerpt_text t ++ codes "\n"
+
 -- an import that leads to no file, unless it need not
 abbrev pub target_lines : Link → (optional : Bool) → Target → List ℕ
-target_lines l false targets.Nothing = codes "error: could not find source file for import\n" ++ excerpt_text l.token ++ codes "\n"
+target_lines l false targets.Nothing = no_file_text l.token
 target_lines l optional target = []
 
 abbrev pub link_lines : Link → List ℕ
@@ -98,8 +102,11 @@ edges_in links = flat_map edges_of links
 abbrev pub name_at : List ModuleFile → (index : ℕ) → List ℕ
 name_at files index = unwrap_or (option_map (λ (f : ModuleFile). f.name.now) (slice_get files index)) []
 
+abbrev pub circular_text : (import current : List ℕ) → List ℕ
+circular_text import current = codes "error: import `" ++ import ++ codes "` in `" ++ current ++ codes "` is circular\n"
+
 abbrev pub edge_text : List ModuleFile → Edge → List ℕ
-edge_text files e = codes "error: import `" ++ name_at files e.to ++ codes "` in `" ++ name_at files e.from ++ codes "` is circular\n"
+edge_text files e = circular_text (name_at files e.to) (name_at files e.from)
 
 abbrev pub edge_lines : List ModuleFile → Option Edge → List ℕ
 edge_lines files None = []

@@ -1,7 +1,7 @@
 //! The lines that tell what is wrong with the files of a module.
 ghost use Rattle.std.specs.Prelude.{◌≡◌, ◌++◌, IfOk, OnOk, string_bytes};
 ghost use Rattle.std.specs.List.{flat_map};
-ghost use Rattle.justfile_problem_lines.specs.Modules.{TellCirclesOf, TellCirclesOfFile, TellImports, TellLinked, TellModule, TellPart, TellParts, definitions_in, definitions_of, edge_text, edges_in, edges_of, last_step, leads_to_file, link_lines, may_be_more, name_at, ring_lines, rules_in};
+ghost use Rattle.justfile_problem_lines.specs.Modules.{TellCirclesOf, TellCirclesOfFile, TellImports, TellLinked, TellModule, TellPart, TellParts, circular_text, definitions_in, definitions_of, edge_text, edges_in, edges_of, last_step, leads_to_file, link_lines, may_be_more, name_at, no_file_text, ring_lines, rules_in};
 
 use crate::lines::{append, circle_lines, problem_lines};
 use crate::links::all_links;
@@ -9,6 +9,7 @@ use circles::{Edge, find_circles};
 use justfile_problems::{
     Definition, Facts, Link, ModuleFile, Rules, Target, circles_of, joined, problems_within,
 };
+use justfile_token::Token;
 use std::alloc::{AllocError, Global};
 
 /// Returns the lines that tell what is wrong with a file, the first one, and those that it imports:
@@ -86,12 +87,22 @@ fn missing_lines(alloc: Global, links: &[Link<'_>]) -> Result<String, AllocError
 fn push_missing(alloc: Global, link: &Link<'_>, lines: &mut String) -> Result<(), AllocError>
     ensures { OnOk result (string_bytes lines.new ≡ string_bytes lines.old ++ link_lines link.now) }
 {
-    if link.target != Target::Nothing || link.optional {
+    if link.optional {
         return Ok(());
     }
-    let token = link.token;
+    match link.target {
+        Target::Nothing => push_no_file(alloc, link.token, lines),
+        Target::File(_) | Target::Unknown => Ok(()),
+    }
+}
+
+/// Appends the lines that tell that there is no file at the path with this token.
+fn push_no_file(alloc: Global, token: Token<'_>, lines: &mut String) -> Result<(), AllocError>
+    ensures { OnOk result
+        (string_bytes lines.new ≡ string_bytes lines.old ++ no_file_text token.entry) }
+{
     let text = format!(in alloc; "error: could not find source file for import\n{token}\n")?;
-    lines.push_str(text.as_str())
+    append(&text, lines)
 }
 
 /// Appends definitions.
@@ -265,14 +276,13 @@ fn rings_lines(
 {
     let mut lines = String::new(alloc);
     for ring in rings {
-        push_ring(alloc, files, edges, ring, &mut lines)?;
+        push_ring(files, edges, ring, &mut lines)?;
     }
     Ok(lines)
 }
 
 /// Appends the line that tells a circle: the step that leads back to where it begins.
 fn push_ring(
-    alloc: Global,
     files: &[ModuleFile<'_>],
     edges: &[Edge],
     ring: &circles::Circle,
@@ -282,7 +292,7 @@ fn push_ring(
         ≡ string_bytes lines.old ++ ring_lines files.now edges.now ring.now) }
 {
     match edges.get(last_step(ring)) {
-        Some(edge) => push_edge_line(alloc, files, *edge, lines),
+        Some(edge) => push_edge_line(files, *edge, lines),
         None => Ok(()),
     }
 }
@@ -299,7 +309,6 @@ fn last_step(ring: &circles::Circle) -> usize
 
 /// Appends the line that tells that an import is part of a circle.
 fn push_edge_line(
-    alloc: Global,
     files: &[ModuleFile<'_>],
     edge: Edge,
     lines: &mut String,
@@ -307,9 +316,22 @@ fn push_edge_line(
     ensures { OnOk result (string_bytes lines.new
         ≡ string_bytes lines.old ++ edge_text files.now edge) }
 {
-    let (import, current) = (name_at(files, edge.to), name_at(files, edge.from));
-    let text = format!(in alloc; "error: import `{import}` in `{current}` is circular\n")?;
-    lines.push_str(text.as_str())
+    let import = name_at(files, edge.to);
+    let current = name_at(files, edge.from);
+    push_circular(import, current, lines)
+}
+
+/// Appends the line that tells that the import of a file in another one is part of a circle.
+fn push_circular(import: &str, current: &str, lines: &mut String) -> Result<(), AllocError>
+    ensures { OnOk result (string_bytes lines.new
+        ≡ string_bytes lines.old ++ circular_text import.now current.now) }
+{
+    lines.push_str("error: import `")?;
+    lines.push_str(import)?;
+    lines.push_str("` in `")?;
+    lines.push_str(current)?;
+    lines.push_str("` is circular\n")?;
+    Ok(())
 }
 
 /// Returns the name of the file with an index.
