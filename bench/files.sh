@@ -91,6 +91,23 @@ run --lint linted; row 'a folder has the greatest status' "$status $(grep -c unk
 (cd linted && justfiles --lint < /dev/null) > ../output; row 'without a file the justfile here is told of' "$? $(grep -c unknown ../output)" '1 1'
 row 'no file is changed' "$(text linted/justfile)" 'a: b
 .'
+mkdir imports; put imports/justfile "import 'one.just'
+import? 'two.just'
+a: b c
+"; put imports/one.just "import 'justfile'
+b: d
+"; put imports/two.just 'set allow-duplicate-recipes
+e:
+e:
+'
+run --lint imports/justfile; row '--lint tells of what is wrong with a file and its imports' "$status $(grep error ../output)" '1 error: recipe `a` has unknown dependency `c`
+error: recipe `b` has unknown dependency `d`
+error: import `imports/justfile` in `imports/one.just` is circular'
+rm imports/two.just
+run --lint imports/justfile; row 'an import without its file may have any name' "$status $(grep error ../output)" '1 error: import `imports/justfile` in `imports/one.just` is circular'
+rm imports/one.just
+run --lint imports/justfile; row 'an import that must have one is told' "$status $(grep error ../output)" '1 error: could not find source file for import'
+rm -r imports
 number=100000
 awk -v n=$number 'BEGIN { for (i = 1; i < n; i++) print "r" i ": r" i + 1; print "r" n ":" }' > linted/justfile
 run --lint linted/justfile; row 'many recipes, each of which depends on the next' "$status $(text ../output)" '0 .'

@@ -4,8 +4,9 @@
 Edits a justfile at random, by ranges, in both encodings. After each edit what the server says of it must be what it
 says of the whole text of a document that was just opened, and at the end what a new server says. The formatting edits
 must lead to a text that has no more edits. Before that it sends what is no message, and asks again, follows links to
-files that are there, asks what can be written at places of a justfile and what words and names mean, and looks at
-what is told to be wrong with what justfiles say. Prints a line for each part, and ends with 1 at the first difference.
+files that are there, asks what can be written at places of a justfile and what words and names mean, looks at what is
+told to be wrong with what justfiles say, and sets it right. Prints a line for each part, and ends with 1 at the first
+difference.
 """
 import json
 import random
@@ -17,6 +18,7 @@ from urllib.parse import unquote
 
 DOCUMENT = "file:///work/justfile"
 FRESH = "file:///work/fresh/justfile"
+IMPORTED = "file:///work/part.just"
 START = """# builds
 set shell := ["sh", "-c"]
 import 'more.just'
@@ -192,6 +194,15 @@ HIGHLIGHTED = [
     ("mode", "mode=", [True, False]),
     ("n", "n + n", [True, False, False]),
     ("no name", "quiet", []),
+]
+FIXES = [
+    # a text with a place between « and », and the title of what sets right what is wrong there, if something does
+    ("# é𝄞\nx «=» 'é𝄞'\n", "Replace `=` with `:=`"),
+    ("twice(value) «=» value + value\n", "Replace `=` with `:=`"),
+    ("x y = «=» z\n", ""),
+    ("x := 'a' «=» 'b'\n", ""),
+    ("x := «[»'a', 'b']\n", "Add `set lists`"),
+    ("x := «unknown_name»\n", ""),
 ]
 FINDINGS = [
     # a justfile, the places of a finding between « and », and of what it is about between ‹ and ›; its code, its message,
@@ -417,11 +428,12 @@ def edit_at_random(program, encoding, edits, chance):
     server.open(DOCUMENT, text)
     errors = formatted = 0
     for _ in range(edits):
-        before = text
-        start, end, new = random_edit(text, chance)
-        change = {"range": {"start": position(text, start, encoding), "end": position(text, end, encoding)}, "text": new}
-        text = text[:start] + new + text[end:]
-        found = server.change(DOCUMENT, [change])
+        before, changes = text, []
+        for _ in range(1 if chance.random() < 0.7 else chance.choice([2, 3, 5, 600])):
+            start, end, new = random_edit(text, chance)
+            changes.append({"range": {"start": position(text, start, encoding), "end": position(text, end, encoding)}, "text": new})
+            text = text[:start] + new + text[end:]
+        found = server.change(DOCUMENT, changes)
         check(at_document(server.open(FRESH, text)) == found, f"other diagnostics of {text!r}")
         said, wanted = server.all_of(DOCUMENT), server.all_of(FRESH)
         for query, one, other in zip(QUERIES, said, wanted):
@@ -635,7 +647,9 @@ def tell_findings(program, encoding):
         check(found == [wanted], f"of {plain!r} is told {found} and not {[wanted]}")
         check(server.open(FRESH, plain)[0]["message"] == wanted["message"], f"of {plain!r} an opened document tells something else")
         broken = server.change(DOCUMENT, [{"text": plain + "\n)\n"}])
-        check(len(broken) == 1 and "code" not in broken[0], f"of a text that can't be parsed is told {broken}")
+        check("code" not in broken[0], f"of a text that can't be parsed is told {broken}")
+        imported = json.loads(json.dumps(server.open(IMPORTED, plain)).replace(IMPORTED, DOCUMENT))
+        check(broken[1:] == imported, f"beside what is wrong is told {broken[1:]} and not {imported}")
     texts = [wanted_finding(text, *case, encoding, DOCUMENT) for text, *case in (FINDINGS[0], FINDINGS[14])]
     lines = texts[0][0].count("\n")
     for side in texts[1][1]["range"].values():
@@ -646,6 +660,9 @@ def tell_findings(program, encoding):
     found = server.change(DOCUMENT, [{"text": "a: b\nx := y\nb: a\nz := y\n"}])
     codes = [told["code"] for told in found]
     check(codes == ["UndefinedVariable", "CircularRecipeDependency", "UndefinedVariable"], f"of a circle among problems is told {codes}")
+    found = server.change(DOCUMENT, [{"text": "a := b\n)\nset quiet\nset quiet\n"}])
+    told = [(told["range"]["start"]["line"], told.get("code")) for told in found]
+    check(told == [(1, None), (3, "DuplicateSet")], f"beside an error is told {told}")
     for name in NAMES:
         found = server.open(f"file:///work/{name}", "x := y\n")
         check([told["code"] for told in found] == ["UndefinedVariable"], f"of {name} is told {found}")
@@ -665,9 +682,32 @@ def tell_findings(program, encoding):
     found = server.change(DOCUMENT, [{"text": f"{long} := y{long}\n"}])
     check([told["code"] for told in found] == ["UndefinedVariable"], "a long name isn't told")
     found = server.change(DOCUMENT, [{"text": "a:" + " b" * 60000 + "\n"}])
-    check(len(found) == 60000, f"{len(found)} of many in a line are told")
+    check(len(found) == 1000, f"{len(found)} of many in a line are told")
     check(server.end() == 0, "the status isn't 0")
     print(f"{encoding}: {len(FINDINGS)} findings are told, and nothing where {len(QUIET)} texts may be right")
+
+
+def set_right(program, encoding):
+    """Asks how what is wrong is set right, and does it."""
+    server = Server(program, encoding)
+    server.open(DOCUMENT, "")
+    named = [(text, f"Replace `{message.split('`')[-4]}` with `{message.split('`')[-2]}`") for text, _, message, _ in FINDINGS if "Did you mean" in message and text.count("«") == 1]
+    for text, title in named + FIXES:
+        plain, place = marked(text, encoding)[:2]
+        server.change(DOCUMENT, [{"text": plain}])
+        actions = server.ask("textDocument/codeAction", {"textDocument": {"uri": DOCUMENT}, "range": place, "context": {"diagnostics": []}})["result"]
+        wanted = [title] if title else []
+        check([(action["title"], action["kind"]) for action in actions] == [(it, "quickfix") for it in wanted], f"of {plain!r} {actions} sets it right")
+        for action in actions:
+            after = edited(plain, action["edit"]["changes"][DOCUMENT], encoding)
+            left = server.change(DOCUMENT, [{"text": after}])
+            check(not any("Did you mean" in told["message"] or told["range"] == place for told in left), f"{action} of {plain!r} leaves {left}")
+    far = {"start": {"line": 9, "character": 0}, "end": {"line": 9, "character": 0}}
+    server.change(DOCUMENT, [{"text": "target := ''\nx := targt\n" + "#\n" * 9}])
+    actions = server.ask("textDocument/codeAction", {"textDocument": {"uri": DOCUMENT}, "range": far, "context": {"diagnostics": []}})["result"]
+    check(actions == [], f"far away {actions} is set right")
+    check(server.end() == 0, "the status isn't 0")
+    print(f"{encoding}: {len(named) + len(FIXES)} texts are set right as they should")
 
 
 def main():
@@ -681,6 +721,7 @@ def main():
         complete(program, encoding)
         explain(program, encoding)
         tell_findings(program, encoding)
+        set_right(program, encoding)
         edit_at_random(program, encoding, edits // 2, chance)
 
 

@@ -1,4 +1,5 @@
 pub mod Answers
+pub mod Fixes
 pub mod Formatting
 pub mod Links
 pub mod Names

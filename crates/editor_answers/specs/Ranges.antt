@@ -1,5 +1,5 @@
 -- Parts of a text as an editor is shown them.
-use Rattle.std.specs.Prelude.{ℕ, ◌-◌, ◌==◌, nat_lt, if◌then◌else◌, List, [], Option, None, Some, length, min, max, option_map, string_bytes}
+use Rattle.std.specs.Prelude.{ℕ, ◌-◌, ◌==◌, ◌++◌, nat_lt, map, take, if◌then◌else◌, List, [], Option, None, Some, length, min, max, option_map, string_bytes}
 use Rattle.justfile_lines.specs.Positions.{column_at, line_at}
 use Rattle.justfile_lines.specs.declared.encoding.Encoding.{Encoding}
 use Rattle.justfile_lines.specs.declared.position.Position.{Position}
@@ -69,6 +69,14 @@ to_place encoding text o = (range_of encoding text o.span, o.message.now)
 abbrev pub to_find : Encoding → (text : List ℕ) → Finding → Told
 to_find encoding text f =
     record { range = range_of encoding text f.span; message = string_bytes f.message; code = f.code.now; related = option_map (to_place encoding text) f.other }
+
+-- how many findings are told at most
+abbrev pub most_found : ℕ
+most_found = 1000
+
+-- what is to be told of problems, and then of the first findings
+abbrev pub all_to_tell : Encoding → (text : List ℕ) → List Problem → List Finding → List Told
+all_to_tell encoding text problems findings = map (to_tell encoding text) problems ++ map (to_find encoding text) (take most_found findings)
 
 -- a name, a kind, the range of all and that of the name
 pub record Sight : Type 0 where

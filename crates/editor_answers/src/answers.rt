@@ -1,14 +1,15 @@
 //! Answers about a text.
-ghost use Rattle.std.specs.Prelude.{◌≡◌, ◌++◌, IfErr, IfOk, IsOkUnless, map};
+ghost use Rattle.std.specs.Prelude.{◌≡◌, IfErr, IfOk, IsOkUnless, map};
 ghost use Rattle.editor_messages.specs.declared.message.Query.TheVariants.{Rename};
 ghost use Rattle.editor_answers.specs.Answers.{Completes, FailsFor, Hovers, IsAbout, IsAnswer, IsRefused, Lacks, LacksName, Offers, RefusesName, Replaces, ShowsFolds, ShowsItems, Tells};
 ghost use Rattle.editor_answers.specs.Links.{LinksIn};
-ghost use Rattle.editor_answers.specs.Ranges.{to_find, to_tell, told};
+ghost use Rattle.editor_answers.specs.Ranges.{all_to_tell, told};
 
 use crate::addresses::{folder_of, folder_path, text_of};
 use crate::asked::Asked;
 use crate::colors::token_numbers;
 use crate::failure::Failure;
+use crate::fixes::fixes;
 use crate::formats::{format, format_range};
 use crate::names::{definition, highlights, hover, references, rename, replaceable};
 use crate::renames::is_right;
@@ -18,7 +19,7 @@ use editor_messages::{Answer, Completions, Diagnostic, ErrorCode, Query};
 use justfile_lines::{Encoding, Position};
 use std::alloc::{AllocError, Global};
 
-/// Returns what is wrong in a text: its problems, and then its findings.
+/// Returns what is wrong in a text: its problems, and then the first of its findings.
 ///
 /// # Errors
 ///
@@ -31,8 +32,7 @@ pub fn diagnostics(
     findings: &[Finding],
 ) -> Result<Vec<Diagnostic>, AllocError>
     ensures { IfOk result (λ found. map told found.items
-        ≡ map (to_tell encoding text.now) problems.now
-        ++ map (to_find encoding text.now) findings.now) }
+        ≡ all_to_tell encoding text.now problems.now findings.now) }
 {
     if problems.is_empty() && findings.is_empty() {
         return Ok(Vec::new(alloc));
@@ -57,7 +57,8 @@ pub fn answer<L: Language>(
     query: Query<'_>,
 ) -> Result<Answer, Failure>
     ensures ok { IfOk result (IsAnswer L.knows L.mentioned encoding uri.now text.now
-        analysis.now L.formats L.unformatted L.names L.linked L.completed query.entry) }
+        analysis.now L.formats L.unformatted L.names L.linked L.completed L.fixed
+        query.entry) }
     ensures failed { IfErr result (FailsFor (IsRefused L.knows L.mentioned encoding uri.now
         text.now analysis.now L.names query.entry)) }
 {
@@ -81,7 +82,7 @@ fn answer_of<L: Language>(
 ) -> Result<Answer, Failure>
     ensures ok { IfOk result (IsAnswer L.knows L.mentioned asked.now.shown.encoding
         asked.now.uri.now asked.now.text.now asked.now.analysis.now L.formats L.unformatted
-        L.names L.linked L.completed query.entry) }
+        L.names L.linked L.completed L.fixed query.entry) }
     ensures failed { IfErr result (FailsFor (IsRefused L.knows L.mentioned
         asked.now.shown.encoding asked.now.uri.now asked.now.text.now asked.now.analysis.now
         L.names query.entry)) }
@@ -95,6 +96,7 @@ fn answer_of<L: Language>(
         Query::FormatRange(range) => format_range(alloc, language, asked, range),
         Query::Complete(position) => complete(alloc, language, asked, position),
         Query::Tokens => tokens(alloc, language, asked),
+        Query::Fixes(range) => fixes(alloc, language, asked, range),
         Query::Definition(at) => about_name(alloc, language, asked, Query::Definition(at)),
         Query::References(at, all) => {
             about_name(alloc, language, asked, Query::References(at, all))
@@ -181,6 +183,7 @@ fn told<L: Language>(
         | Query::FormatRange(_)
         | Query::Complete(_)
         | Query::Hover(_)
+        | Query::Fixes(_)
         | Query::Tokens
         | Query::Links => Ok(Answer::Nothing),
     }

@@ -4,6 +4,7 @@ ghost use Rattle.editor_answers.specs.Formatting.{EditsWith, Formats, FormatsRan
 
 use crate::asked::Asked;
 use crate::failure::Failure;
+use crate::fixes::edits;
 use editor_language::{Language, Span};
 use editor_messages::Answer;
 use justfile_lines::Encoding;
@@ -86,7 +87,7 @@ fn part_edits<L: Language>(
         end: asked.shown.offset(range.end),
     };
     let replacements = language.formatted_items(alloc, asked.text, asked.analysis, span)?;
-    asked.shown.replacement_edits(alloc, &replacements)
+    edits(alloc, asked, &replacements)
 }
 
 /// Whether edits lead to a text that has this formatted text.

@@ -7,6 +7,7 @@ mod asked;
 mod colors;
 mod explained;
 mod failure;
+mod fixes;
 mod formats;
 mod names;
 mod renames;

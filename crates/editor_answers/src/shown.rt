@@ -5,16 +5,18 @@ ghost use Rattle.std.specs.Option.{option_to_list};
 ghost use Rattle.editor_answers.specs.Links.{pointed, to_point};
 ghost use Rattle.justfile_lines.specs.Positions.{IsOffset, IsPlace};
 ghost use Rattle.editor_language.specs.Mentions.{is_like};
-ghost use Rattle.editor_answers.specs.Ranges.{beside, fold_of, highlight_of, last_line_of, position_of, range_of, shown, to_find, to_place, to_show, to_tell, told};
+ghost use Rattle.editor_answers.specs.Ranges.{all_to_tell, beside, fold_of, highlight_of, last_line_of, position_of, range_of, shown, to_find, to_place, to_show, to_tell, told};
 
 use crate::addresses::address;
-use editor_language::{
-    FileLink, Finding, Item, Mention, OtherPlace, Problem, Replacement, Span, is_like,
-};
+use editor_language::{FileLink, Finding, Item, Mention, OtherPlace, Problem, Span, is_like};
 use editor_messages::{Diagnostic, Fold, Highlight, Link, Related, Symbol};
 use justfile_lines::{Encoding, Lines, Place, Position};
 use std::alloc::{AllocError, Global};
-use text_edits::{Range, TextEdit};
+use text_edits::Range;
+
+/// How many findings are told at most: more of them nobody reads, and for each the line of another place may
+/// be gone along.
+const MOST_FOUND: usize = 1_000;
 
 /// A text, and how its columns are counted.
 #[derive(Drop)]
@@ -132,22 +134,22 @@ impl<'a> Shown<'a> {
         Ok(highlights)
     }
 
-    /// Returns what is wrong in the text: its problems, and then its findings.
+    /// Returns what is wrong in the text: its problems, and then the first of its findings.
     pub(crate) fn diagnostics(
         &self,
         alloc: Global,
         problems: &[Problem],
         findings: &[Finding],
     ) -> Result<Vec<Diagnostic>, AllocError>
-        ensures { IfOk result (λ found. map told found.items
-            ≡ map (to_tell self.now.encoding self.now.lines.text.now) problems.now
-            ++ map (to_find self.now.encoding self.now.lines.text.now) findings.now) }
+        ensures { IfOk result (λ found. map told found.items ≡ all_to_tell
+            self.now.encoding self.now.lines.text.now problems.now findings.now) }
     {
+        let (first, _) = findings.split_at(MOST_FOUND.min(findings.len()));
         let mut diagnostics = Vec::new(alloc);
         for problem in problems {
             diagnostics.push(self.diagnostic(problem)?)?;
         }
-        self.push_found(findings, &mut diagnostics)?;
+        self.push_found(first, &mut diagnostics)?;
         Ok(diagnostics)
     }
 
@@ -291,26 +293,6 @@ impl<'a> Shown<'a> {
         let range = self.range(link.span);
         let target = address(alloc, folder, link.path.as_str())?;
         Ok(Link { range, target })
-    }
-
-    /// Returns the edits that replace parts of a text.
-    pub(crate) fn replacement_edits(
-        &self,
-        alloc: Global,
-        replacements: &[Replacement],
-    ) -> Result<Vec<TextEdit>, AllocError> {
-        let mut edits = Vec::new(alloc);
-        for replacement in replacements {
-            edits.push(self.replacement_edit(replacement)?)?;
-        }
-        Ok(edits)
-    }
-
-    /// Returns the edit that replaces a part of a text.
-    fn replacement_edit(&self, replacement: &Replacement) -> Result<TextEdit, AllocError> {
-        let text = replacement.text.clone()?;
-        let range = self.range(replacement.span);
-        Ok(TextEdit { range, text })
     }
 }
 

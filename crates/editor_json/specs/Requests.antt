@@ -65,6 +65,7 @@ question_in methods.PrepareRename d = at_position queries.PrepareRename d
 question_in methods.Rename d = rename_in d
 question_in methods.Hover d = at_position queries.Hover d
 question_in methods.Completion d = at_position queries.Complete d
+question_in methods.CodeAction d = option_map (λ r. plain (queries.Fixes r)) (range_in d)
 question_in methods.SemanticTokens d = Some (plain queries.Tokens)
 question_in methods.DocumentLink d = Some (plain queries.Links)
 question_in other d = None

@@ -12,6 +12,7 @@ use Rattle.text_edits.specs.declared.edit.TextEdit.{TextEdit}
 use Rattle.editor_messages.specs.Numbers.{completion_number, error_number, highlight_number, symbol_number}
 use Rattle.editor_messages.specs.declared.answer.Answer.{Answer}
 use Rattle.editor_messages.specs.declared.answer.Answer.TheVariants as answers
+use Rattle.editor_messages.specs.declared.answer.CodeAction.{CodeAction}
 use Rattle.editor_messages.specs.declared.answer.Completion.{Completion}
 use Rattle.editor_messages.specs.declared.answer.Completions.{Completions}
 use Rattle.editor_messages.specs.declared.answer.Diagnostic.{Diagnostic}
@@ -133,6 +134,10 @@ hover_data h = object (member (codes "contents") (markup_data (string_bytes h.te
 abbrev pub rename_data : (uri : List ℕ) → List TextEdit → Data
 rename_data uri edits = object (member (codes "changes") (object (member uri (list_data edit_data edits) no_members)) no_members)
 
+-- a way to set something right in the document with this address
+abbrev pub action_data : (uri : List ℕ) → CodeAction → Data
+action_data uri a = object (member (codes "edit") (rename_data uri a.edits.items) (member (codes "kind") (text_data (codes "quickfix")) (member (codes "title") (text_data (string_bytes a.title)) no_members)))
+
 abbrev pub tokens_data : List ℕ → Data
 tokens_data numbers = object (member (codes "data") (list_data count_data numbers) no_members)
 
@@ -150,6 +155,9 @@ triggers = codes "(" ∷ codes "," ∷ codes ":" ∷ codes "=" ∷ codes "[" ∷
 
 abbrev pub completion_ability : Data
 completion_ability = object (member (codes "triggerCharacters") (list_data text_data triggers) no_members)
+
+abbrev pub action_ability : Data
+action_ability = object (member (codes "codeActionKinds") (list_data text_data (codes "quickfix" ∷ [])) no_members)
 
 abbrev pub token_types : List (List ℕ)
 token_types = codes "comment" ∷ codes "string" ∷ codes "operator" ∷ codes "keyword" ∷ codes "property" ∷ codes "function" ∷ codes "variable" ∷ codes "parameter" ∷ []
@@ -173,7 +181,7 @@ abbrev pub middle_abilities : Encoding → Members
 middle_abilities encoding = member (codes "documentRangeFormattingProvider") (boolean true) (member (codes "documentSymbolProvider") (boolean true) (member (codes "foldingRangeProvider") (boolean true) (member (codes "hoverProvider") (boolean true) (last_abilities encoding))))
 
 abbrev pub abilities : Encoding → Members
-abilities encoding = member (codes "completionProvider") completion_ability (member (codes "definitionProvider") (boolean true) (member (codes "documentFormattingProvider") (boolean true) (member (codes "documentHighlightProvider") (boolean true) (member (codes "documentLinkProvider") nothing_more (middle_abilities encoding)))))
+abilities encoding = member (codes "codeActionProvider") action_ability (member (codes "completionProvider") completion_ability (member (codes "definitionProvider") (boolean true) (member (codes "documentFormattingProvider") (boolean true) (member (codes "documentHighlightProvider") (boolean true) (member (codes "documentLinkProvider") nothing_more (middle_abilities encoding))))))
 
 abbrev pub server_data : Data
 server_data = object (member (codes "name") (text_data (codes "justfile_server")) no_members)
@@ -194,6 +202,7 @@ result_data (answers.Highlights highlights) = list_data highlight_data highlight
 result_data (answers.Rename rename) = rename_data (string_bytes rename.uri) rename.edits.items
 result_data (answers.Hover hover) = hover_data hover
 result_data (answers.Completions completions) = completions_data completions
+result_data (answers.Fixes uri actions) = list_data (action_data (string_bytes uri)) actions.items
 result_data (answers.Tokens numbers) = tokens_data numbers.items
 result_data (answers.Links links) = list_data link_data links.items
 

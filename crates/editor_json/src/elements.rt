@@ -2,12 +2,12 @@
 ghost use Rattle.std.specs.Prelude.{◌≡◌, IfOk, string_bytes};
 ghost use Rattle.serde_json.specs.View.{view};
 ghost use Rattle.serde_json.specs.Written.{compact_text};
-ghost use Rattle.editor_json.specs.Sent.{completion_data, count_data, diagnostic_data, edit_data, fold_data, highlight_data, link_data, optional_text, place_data, put_data, related_data, related_text, symbol_data};
+ghost use Rattle.editor_json.specs.Sent.{action_data, completion_data, count_data, diagnostic_data, edit_data, fold_data, highlight_data, link_data, optional_text, place_data, put_data, related_data, related_text, symbol_data};
 
 use crate::lists::Written;
-use crate::results::{quoted, range_text};
+use crate::results::{quoted, range_text, rename_text};
 use crate::values::{range_value, text_of};
-use editor_messages::{Completion, Diagnostic, Fold, Highlight, Link, Related, Symbol};
+use editor_messages::{CodeAction, Completion, Diagnostic, Fold, Highlight, Link, Related, Symbol};
 use serde_json::{Value, json};
 use std::alloc::{AllocError, Global};
 use text_edits::{Range, TextEdit};
@@ -146,6 +146,28 @@ fn link_value(alloc: Global, link: &Link) -> Result<Value, AllocError>
     let range = range_value(alloc, link.range)?;
     let target = link.target.as_str();
     json!(in alloc; {"range": range, "target": target})
+}
+
+impl Written for CodeAction {
+    // the address of the document
+    type Shared = String;
+
+    ghost written = { λ uri. action_data (string_bytes uri) };
+
+    fn text(&self, alloc: Global, uri: &String) -> Result<String, AllocError> {
+        action_text(alloc, self, uri.as_str())
+    }
+}
+
+/// Returns the text of a way to set something right in the document with an address.
+#[tactic(auto, unfolding(serde_json::proofs::OnLiterals::serde_json_on_literals))]
+fn action_text(alloc: Global, action: &CodeAction, uri: &str) -> Result<String, AllocError>
+    ensures { IfOk result (λ text.
+        string_bytes text ≡ compact_text (action_data uri.now action.now)) }
+{
+    let edit = rename_text(alloc, uri, &action.edits)?;
+    let title = quoted(alloc, action.title.as_str())?;
+    format!(in alloc; "{{\"edit\":{edit},\"kind\":\"quickfix\",\"title\":{title}}}")
 }
 
 impl Written for Completion {

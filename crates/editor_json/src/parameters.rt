@@ -77,6 +77,7 @@ fn query_of<'a>(method: Method, parameters: &'a Value) -> Option<Query<'a>>
         Method::Rename => rename_in(parameters),
         Method::Hover => Some(Query::Hover(position_in(parameters)?)),
         Method::Completion => Some(Query::Complete(position_in(parameters)?)),
+        Method::CodeAction => Some(Query::Fixes(range_in(parameters)?)),
         Method::SemanticTokens => Some(Query::Tokens),
         Method::DocumentLink => Some(Query::Links),
         _ => None,

@@ -29,6 +29,7 @@ pub(crate) fn result_text(alloc: Global, answer: &Answer) -> Result<String, Allo
         Answer::Rename(rename) => rename_text(alloc, rename.uri.as_str(), &rename.edits),
         Answer::Hover(hover) => hover_text(alloc, hover),
         Answer::Completions(completions) => completions_text(alloc, completions),
+        Answer::Fixes(uri, actions) => list_text(alloc, uri, actions),
         Answer::Tokens(numbers) => tokens_text(alloc, numbers),
         Answer::Links(links) => list_text(alloc, &(), links),
     }
@@ -49,6 +50,7 @@ fn encoding_name(encoding: Encoding) -> &'static str
 /// them a name or a keyword can follow. There is no quote among them, since in a string there is nothing
 /// to ask for, and no space, which is in each line of a body.
 const BEFORE: &str = "{\"capabilities\":{\
+    \"codeActionProvider\":{\"codeActionKinds\":[\"quickfix\"]},\
     \"completionProvider\":{\"triggerCharacters\":[\
         \"(\",\",\",\":\",\"=\",\"[\",\"{\"]},\
     \"definitionProvider\":true,\
@@ -89,7 +91,11 @@ pub(crate) fn range_text(alloc: Global, range: Range) -> Result<String, AllocErr
 }
 
 /// Returns the text of edits of the document with an address.
-fn rename_text(alloc: Global, uri: &str, edits: &[TextEdit]) -> Result<String, AllocError>
+pub(crate) fn rename_text(
+    alloc: Global,
+    uri: &str,
+    edits: &[TextEdit],
+) -> Result<String, AllocError>
     ensures { IfOk result
         (λ text. string_bytes text ≡ compact_text (rename_data uri.now edits.now)) }
 {

@@ -5,9 +5,10 @@ ghost use Rattle.editor_language.specs.declared.parts.Analysis.{Analysis};
 ghost use Rattle.editor_language.specs.declared.parts.Choices.{Choices};
 ghost use Rattle.editor_language.specs.declared.parts.FileLink.{FileLink};
 ghost use Rattle.editor_language.specs.declared.parts.Finding.{Finding};
+ghost use Rattle.editor_language.specs.declared.parts.QuickFix.{QuickFix};
 
 use crate::mention::Mention;
-use crate::parts::{Analysis, Choices, Colored, FileLink, Finding, Replacement, Span};
+use crate::parts::{Analysis, Choices, Colored, FileLink, Finding, QuickFix, Replacement, Span};
 use std::alloc::{AllocError, Global};
 
 /// A language.
@@ -36,6 +37,10 @@ pub trait Language {
 
     /// This can be written at an offset of the text, which has these mentions.
     ghost completed: { List ℕ → List Mention → ℕ → Choices → Type 0 };
+
+    /// These set right what is wrong in the text of the document with the address, of which this is
+    /// known.
+    ghost fixed: { List ℕ → List ℕ → Analysis → List QuickFix → Type 0 };
 
     /// Returns what is known of a text.
     ///
@@ -152,6 +157,20 @@ pub trait Language {
         offset: usize,
     ) -> Result<Choices, AllocError>
         ensures { IfOk result (completed text.now mentions.now offset) };
+
+    /// Returns ways to set right what is wrong in a text, which is that of the document with an address.
+    ///
+    /// # Errors
+    ///
+    /// Memory ran out.
+    fn fixes(
+        &self,
+        alloc: Global,
+        uri: &str,
+        text: &str,
+        analysis: &Analysis,
+    ) -> Result<Vec<QuickFix>, AllocError>
+        ensures { IfOk result (λ found. fixed uri.now text.now analysis.now found.items) };
 
     /// Returns how the tokens of a text are shown, in their order.
     ///

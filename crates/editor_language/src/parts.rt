@@ -110,6 +110,17 @@ pub struct Replacement {
     pub text: String,
 }
 
+/// A way to set right what is wrong in a text.
+#[derive(Drop)]
+pub struct QuickFix {
+    /// Where it is wrong.
+    pub span: Span,
+    /// What is done.
+    pub title: String,
+    /// What takes the place of parts of the text.
+    pub replacements: Vec<Replacement>,
+}
+
 /// What can be written somewhere.
 #[derive(Drop)]
 pub struct Choices {

@@ -152,6 +152,15 @@ pub struct Link {
     pub target: String,
 }
 
+/// A way to set something right.
+#[derive(Drop)]
+pub struct CodeAction {
+    /// What is done.
+    pub title: String,
+    /// The edits.
+    pub edits: Vec<TextEdit>,
+}
+
 /// An answer.
 #[derive(Drop)]
 pub enum Answer {
@@ -177,6 +186,8 @@ pub enum Answer {
     Hover(Hover),
     /// What can be written.
     Completions(Completions),
+    /// Ways to set something right in the document with an address.
+    Fixes(String, Vec<CodeAction>),
     /// The kinds of tokens, as the protocol writes them.
     Tokens(Vec<usize>),
     /// Links.

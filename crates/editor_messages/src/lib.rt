@@ -10,8 +10,8 @@ mod method;
 mod symbol_kind;
 
 pub use answer::{
-    Answer, Completion, CompletionKind, Completions, Diagnostic, Fold, Highlight, Hover, Link,
-    Related, Rename, Symbol,
+    Answer, CodeAction, Completion, CompletionKind, Completions, Diagnostic, Fold, Highlight,
+    Hover, Link, Related, Rename, Symbol,
 };
 pub use change::{Change, changed_text};
 pub use error_code::ErrorCode;

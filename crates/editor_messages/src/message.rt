@@ -38,6 +38,8 @@ pub enum Query<'a> {
     Hover(Position),
     /// What can be written at a position.
     Complete(Position),
+    /// Ways to set right what is wrong in a range.
+    Fixes(Range),
     /// The kinds of its tokens.
     Tokens,
     /// Its links.

@@ -39,6 +39,8 @@ pub enum Method {
     Hover,
     /// Asks what can be written somewhere.
     Completion,
+    /// Asks for ways to set right what is wrong in a range.
+    CodeAction,
     /// Asks for the kinds of tokens.
     SemanticTokens,
     /// Asks for the links of a document.
@@ -46,7 +48,7 @@ pub enum Method {
 }
 
 /// All methods.
-static METHODS: [Method; 19] = [
+static METHODS: [Method; 20] = [
     Method::Initialize,
     Method::Shutdown,
     Method::Exit,
@@ -64,6 +66,7 @@ static METHODS: [Method; 19] = [
     Method::Rename,
     Method::Hover,
     Method::Completion,
+    Method::CodeAction,
     Method::SemanticTokens,
     Method::DocumentLink,
 ];
@@ -98,6 +101,7 @@ impl Method {
             Method::Rename => "textDocument/rename",
             Method::Hover => "textDocument/hover",
             Method::Completion => "textDocument/completion",
+            Method::CodeAction => "textDocument/codeAction",
             Method::SemanticTokens => "textDocument/semanticTokens/full",
             Method::DocumentLink => "textDocument/documentLink",
         }

@@ -23,8 +23,9 @@ use Rattle.editor_language.specs.declared.parts.Analysis.{Analysis}
 use Rattle.editor_language.specs.declared.parts.Choices.{Choices}
 use Rattle.editor_language.specs.declared.parts.FileLink.{FileLink}
 use Rattle.editor_language.specs.declared.parts.Finding.{Finding}
+use Rattle.editor_language.specs.declared.parts.QuickFix.{QuickFix}
 use Rattle.editor_answers.specs.Answers.{IsAnswer, IsRefused}
-use Rattle.editor_answers.specs.Ranges.{to_find, to_tell, told}
+use Rattle.editor_answers.specs.Ranges.{all_to_tell, told}
 use Rattle.editor_server.specs.Changed.{DocumentMap, IsStored}
 use Rattle.editor_server.specs.declared.documents.Document.{Document}
 use Rattle.editor_server.specs.declared.documents.Documents.{Documents}
@@ -52,11 +53,11 @@ pub record LosesAll (new : Documents) : Type 0 where
   pub none : IsEmpty new.list
   pub lost : new.has_lost ≡ true
 
--- What is told of a text of which this is known: its problems, and then the findings in it.
+-- What is told of a text of which this is known: its problems, and then the first of the findings in it.
 pub record TellsAll (finds : List ℕ → List ℕ → Analysis → List Finding → Type 0) (encoding : Encoding) (uri text : List ℕ) (analysis : Analysis) (found : List Diagnostic) : Type 0 where
   pub findings : List Finding
   pub are_findings : finds uri text analysis findings
-  pub tells : map told found ≡ map (to_tell encoding text) analysis.problems.items ++ map (to_find encoding text) findings
+  pub tells : map told found ≡ all_to_tell encoding text analysis.problems.items findings
 
 -- a document with the text is at the address, nothing else changes, and what is found is all that is known to be wrong in the text
 pub record Stores (knows : List ℕ → Analysis → Type 0) (finds : List ℕ → List ℕ → Analysis → List Finding → Type 0) (encoding : Encoding) (uri text : List ℕ) (old new : Documents) (found : List Diagnostic) : Type 0 where
@@ -117,10 +118,10 @@ reason_of ShutDown codes.MethodNotFound = codes.InvalidRequest
 reason_of ShutDown codes.InvalidParams = codes.InvalidRequest
 reason_of stage code = code
 
-module _ (knows : List ℕ → Analysis → Type 0) (mentioned : List ℕ → Analysis → List Mention → Type 0) (formats : List ℕ → List ℕ → Type 0) (unformatted names : List ℕ → Type 0) (linked : Option (List ℕ) → List ℕ → Analysis → List FileLink → Type 0) (completed : List ℕ → List Mention → ℕ → Choices → Type 0) where
+module _ (knows : List ℕ → Analysis → Type 0) (mentioned : List ℕ → Analysis → List Mention → Type 0) (formats : List ℕ → List ℕ → Type 0) (unformatted names : List ℕ → Type 0) (linked : Option (List ℕ) → List ℕ → Analysis → List FileLink → Type 0) (completed : List ℕ → List Mention → ℕ → Choices → Type 0) (fixed : List ℕ → List ℕ → Analysis → List QuickFix → Type 0) where
   -- the answer about the document that is at an address
   abbrev pub IsAnswerAbout : Encoding → (uri : List ℕ) → Query → Option Document → Answer → Type 0
-  IsAnswerAbout encoding uri query (Some d) answer = IsAnswer knows mentioned encoding uri (string_bytes d.text) d.analysis formats unformatted names linked completed query answer
+  IsAnswerAbout encoding uri query (Some d) answer = IsAnswer knows mentioned encoding uri (string_bytes d.text) d.analysis formats unformatted names linked completed fixed query answer
   IsAnswerAbout encoding uri query None answer = ⊥
 
   -- the answer to a request

@@ -1,6 +1,7 @@
 -- A formatter and a linter for tests.
-use Rattle.std.specs.Prelude.{◌≡◌, ◌≢◌, ℕ, List, [], codes}
+use Rattle.std.specs.Prelude.{◌≡◌, ◌≢◌, ℕ, List, [], ◌∷◌, codes}
 use Rattle.std.specs.Str.{bytes_eq}
+use Rattle.justfile_files.specs.Sources.{Source}
 use Rattle.std.proofs.Common.{ap, sym, true≢false, ◌∙◌}
 
 -- Each text but one has the same formatted text.
@@ -8,12 +9,26 @@ pub record FormatsConstantly (source text : List ℕ) : Type 0 where
   pub good : source ≢ codes "bad\n"
   pub is : text ≡ codes "formatted\n"
 
+abbrev pub IsBad : (source : List ℕ) → Type 0
+IsBad source = source ≡ codes "bad\n"
+
 abbrev pub RejectsBad : (name source lines : List ℕ) → Type 0
-RejectsBad name source lines = source ≡ codes "bad\n"
+RejectsBad name source lines = IsBad source
+
+-- this holds of the text of the first file
+abbrev pub OfFirst : (List ℕ → Type 0) → List Source → Type 0
+OfFirst P [] = Unit {0}
+OfFirst P (s ∷ others) = P s.text
+
+abbrev pub BeginsBad : List Source → (lines : List ℕ) → Type 0
+BeginsBad files lines = OfFirst IsBad files
 
 -- Nothing is wrong with the formatted text.
-abbrev pub FindsOthers : (name source lines : List ℕ) → Type 0
-FindsOthers name source lines = source ≡ codes "formatted\n" → lines ≡ []
+abbrev pub Wrong : (source lines : List ℕ) → Type 0
+Wrong source lines = source ≡ codes "formatted\n" → lines ≡ []
+
+abbrev pub FindsOthers : List Source → (missing : List (List ℕ)) → (lines : List ℕ) → Type 0
+FindsOthers files missing lines = OfFirst (λ source. Wrong source lines) files
 
 pub one : (source text other : List ℕ) → FormatsConstantly source text → FormatsConstantly source other → text ≡ other
 one source text other f g = f.is ∙ sym g.is

@@ -20,6 +20,9 @@ static FILES: &[(&str, &[u8])] = &[
     ("d/justfile", b"one\n"),
     ("d/notes", b"three\n"),
     ("d/e/x.JUST", b"two\n"),
+    ("see/a", b"see b ../see/./c gone b"),
+    ("see/b", b"see a c /see/d x/../gone"),
+    ("see/c", b"see c bytes ../bytes"),
 ];
 
 /// A file.
@@ -55,10 +58,13 @@ impl MemoryFolder {
         })
     }
 
-    /// Returns the texts of the files after their names.
+    /// Returns the texts of the files after their names, but for those that name others.
     pub fn text(&self, alloc: Global) -> Result<String, AllocError> {
         let mut text = String::new(alloc);
         for file in &self.files {
+            if file.name.starts_with("see/") {
+                continue;
+            }
             let bytes = str::from_utf8(&file.bytes).unwrap_or("?");
             text.push_str(format!(in alloc; "{}={bytes:?} ", file.name)?.as_str())?;
         }
@@ -157,6 +163,10 @@ impl Folder for MemoryFolder {
             return Err(Error::from(ErrorKind::PermissionDenied));
         }
         copy_of(alloc, &self.files, name)
+    }
+
+    fn read_named(&mut self, alloc: Global, name: &str) -> io::Result<Vec<u8>> {
+        self.read(alloc, name)
     }
 
     fn replace(

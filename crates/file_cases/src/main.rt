@@ -74,6 +74,8 @@ static CASES: &[&str] = &[
     "--lint d",
     "--lint bytes no\x1b",
     "--lint -- -n",
+    "--lint see/a",
+    "--lint see/c",
     "--lint --name n -",
     "--lint --check a",
     "--check --lint a",

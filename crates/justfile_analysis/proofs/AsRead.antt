@@ -1,5 +1,5 @@
 -- A text in parts of which none is wrong is a justfile.
-use Rattle.std.proofs.Common.{◌≡◌, ◌∙◌, ℕ, ◌+◌, ◌-◌, ◌<◌, Bool, true, false, List, [], ◌∷◌, ◌++◌, length, filter, is_some, cond, refl, sym, ap, subst, arith, Option, None, Some, length-append, true≢false}
+use Rattle.std.proofs.Common.{◌≡◌, ◌∙◌, ℕ, ◌+◌, ◌-◌, ◌<◌, Bool, true, false, List, [], ◌∷◌, ◌++◌, length, refl, sym, ap, subst, arith, Option, None, Some, length-append, true≢false}
 use Rattle.std.specs.Prelude.{slice_index}
 use Rattle.std.specs.List.{All}
 use Rattle.std.proofs.lemmas.List.{get_or_append_left, get_or-append-add}
@@ -11,7 +11,7 @@ use Rattle.justfile_ast.specs.declared.ast.Ast.{Ast}
 use Rattle.justfile_canonical.specs.Root.{conditions}
 use Rattle.editor_language.specs.declared.parts.Known.{Known}
 use Rattle.editor_language.specs.declared.parts.PartProblem.{PartProblem}
-use Rattle.justfile_analysis.specs.InText.{is_wrong, wrong_count}
+use Rattle.justfile_analysis.specs.InText.{AreToldAs, ProblemAt, moved_offset, problem_at, problems_from}
 use Rattle.justfile_analysis.specs.Knowledge.{AreOfFiles, RightLaw, all_read_as, read_as}
 use Rattle.justfile_analysis.specs.Parts as parts
 use Rattle.justfile_analysis.specs.Parts.{IsPartOf, IsRight}
@@ -25,18 +25,18 @@ use Rattle.justfile_analysis.proofs.SeenParts.{right_parts}
 IsNotWrong : Part Known → Type 0
 IsNotWrong p = p.known.problem ≡ None
 
--- the first one isn't wrong, and no other one is
-first_right : (o : Option PartProblem) (p : Part Known) (ps : List (Part Known))
-    → length (cond (is_some o) (p ∷ filter is_wrong ps) (filter is_wrong ps)) ≡ 0 → (o ≡ None) × (wrong_count ps ≡ 0)
-first_right None p ps e = (refl, e)
-first_right (Some problem) p ps e = absurd (omega (arith, e))
+-- of no problem that is told the first one is none, and the others are none
+first_right : (base : ℕ) (o : Option PartProblem) (others : List ProblemAt) → AreToldAs (problem_at base o ++ others) [] → (o ≡ None) × AreToldAs others []
+first_right base None others told = (refl, told)
+first_right base (Some problem) others told = absurd told
 
-none_wrong : (ps : List (Part Known)) → wrong_count ps ≡ 0 → All IsNotWrong ps
+none_wrong : (start : ℕ) (ps : List (Part Known)) → AreToldAs (problems_from start ps) [] → All IsNotWrong ps
 unfolding IsNotWrong
-none_wrong [] e = All-nil IsNotWrong
-none_wrong (p ∷ ps) e =
-    let all = first_right p.known.problem p ps e in
-    All-cons IsNotWrong p ps all.0 (none_wrong ps all.1)
+none_wrong start [] told = All-nil IsNotWrong
+none_wrong start (p ∷ ps) told =
+    let next = moved_offset start p.size in
+    let all = first_right (start - 1) p.known.problem (problems_from next ps) told in
+    All-cons IsNotWrong p ps all.0 (none_wrong next ps all.1)
 
 -- ---- a part that was read up to the first byte of the next one
 
@@ -122,7 +122,7 @@ files is_first (p ∷ ps) (r ∷ rs) about =
 
 pub right_law : RightLaw
 right_law text a knows none =
-    let not_wrong = none_wrong a.parts.items (sym knows.problems_are ∙ ap length none) in
+    let not_wrong = none_wrong 0 a.parts.items (subst (AreToldAs (problems_from 0 a.parts.items)) none knows.problems_are) in
     let read = right_parts conditions IsPartOf IsNotWrong IsAbout as_read knows.are_parts not_wrong in
     let found = files true a.parts.items read.rs read.about in
     record {

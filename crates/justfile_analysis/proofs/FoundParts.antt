@@ -4,7 +4,7 @@ use Rattle.std.specs.Prelude.{IfSome, nat_eq, slice_index, slice_range}
 use Rattle.std.specs.Str.{IsCharBoundary, IsUtf8}
 use Rattle.std.proofs.lemmas.Str.{IsCharBoundary-after_ascii}
 use Rattle.std.proofs.lemmas.Bool.Decides.{nat_tests}
-use Rattle.std.proofs.lemmas.List.{get_or-drop, get_or-take, length-drop, length-take-le, take_all}
+use Rattle.std.proofs.lemmas.List.{length-drop, length-take-le, take_all}
 use Rattle.text_parts.specs.Parts.{before, seen, sees_end}
 use Rattle.text_parts.proofs.Fitting.{before_at}
 use Rattle.text_parts.specs.Places.{IsLineStart, IsPartEnd, IsPartStart}
@@ -17,7 +17,7 @@ use Rattle.justfile_recovery.specs.Starts.{is_start}
 use Rattle.justfile_analysis.specs.Ends.{IsEnd, IsStop}
 use Rattle.justfile_analysis.specs.Parts as parts
 use Rattle.justfile_analysis.specs.Parts.{IsFile, IsFound, IsRead, IsRight}
-use Rattle.justfile_analysis.proofs.Starts.{Begins, begins, begins_line_at}
+use Rattle.justfile_analysis.proofs.Starts.{Begins, begins, begins_line_at, byte_is}
 
 -- a place in the text is the end of a part
 pub part_end : (text : List ℕ) (start at : ℕ) → start < at → IsStop text at → IsPartEnd text start (at - start)
@@ -39,13 +39,6 @@ module _ (text : List ℕ) (start reach : ℕ) where
 
   pub at_end : start ≤ length text → length text < start + reach → sees_end (nat_eq start 0) reach (drop (start - 1) text) ≡ true
   at_end within l = grind (arith, nat_tests, length-drop (start - 1) text, before_at start, within, l)
-
--- a byte of what was read
-pub byte_is : (text : List ℕ) (from to at : ℕ) → from ≤ at → at < to → slice_index (slice_range text from to) (at - from) ≡ slice_index text at
-byte_is text from to at l m =
-    get_or-take (to - from) (drop from text) (at - from) 0 (omega (arith, l, m))
-    ∙ get_or-drop from text (at - from) 0
-    ∙ ap (λ k. slice_index text k) (omega (arith, l))
 
 -- up to the first byte of the next part
 module _ (text : List ℕ) (start end : ℕ) (e : IsEnd text start end) (within : end < length text) where

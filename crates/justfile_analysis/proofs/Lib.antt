@@ -4,4 +4,6 @@ pub mod Lists
 pub mod RightParts
 pub mod SeenParts
 pub mod Starts
+pub mod Told
+pub mod Why
 pub mod WrongParts

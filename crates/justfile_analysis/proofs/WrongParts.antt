@@ -1,10 +1,10 @@
 -- Parts that are rejected.
-use Rattle.std.proofs.Common.{◌≡◌, inl, inr, ℕ, ◌+◌, ◌-◌, ◌<◌, ◌≤◌, List, length, take, drop, Some, ap, sym, subst, ◌∙◌, arith}
-use Rattle.std.specs.Prelude.{codes, min, nat_eq}
+use Rattle.std.proofs.Common.{◌≡◌, inl, inr, ℕ, ◌+◌, ◌-◌, ◌<◌, ◌≤◌, true, List, length, take, drop, Some, ap, sym, subst, ◌∙◌, arith}
+use Rattle.std.specs.Prelude.{Bool, codes, min, nat_eq}
 use Rattle.std.specs.List.{slice_range}
-use Rattle.std.proofs.lemmas.List.{take-take}
+use Rattle.std.proofs.lemmas.List.{length-drop, take-take, take_all}
 use Rattle.text_parts.proofs.Fitting.{before_at}
-use Rattle.text_parts.specs.Parts.{before, seen}
+use Rattle.text_parts.specs.Parts.{before, seen, sees_end}
 use Rattle.text_parts.specs.Places.{IsLineStart, IsPartEnd}
 use Rattle.text_parts.specs.declared.part.Part.{Part}
 use Rattle.justfile_ast.specs.declared.ast.Ast.{Ast}
@@ -12,9 +12,11 @@ use Rattle.justfile_canonical.specs.Root.{IsRoot}
 use Rattle.editor_language.specs.declared.parts.Item.{Item}
 use Rattle.editor_language.specs.declared.parts.Known.{Known}
 use Rattle.editor_language.specs.declared.parts.PartProblem.{PartProblem}
+use Rattle.justfile_recovery.specs.Starts.{is_start}
 use Rattle.justfile_analysis.specs.Ends.{IsEnd, IsStop}
-use Rattle.justfile_analysis.specs.Parts.{AreBefore, AreItems, AreOfFront, IsFound, IsNone, IsPartOf, IsRight, IsWrong, read_of}
-use Rattle.justfile_analysis.proofs.Starts.{begins, begins_line_at}
+use Rattle.justfile_analysis.specs.Parts.{AreBefore, AreItems, AreOfFront, IsFound, IsPartOf, IsRight, IsWrong, MayEnd, TellsWhy, read_of}
+use Rattle.justfile_analysis.proofs.FoundParts.{at_end, seen_is}
+use Rattle.justfile_analysis.proofs.Starts.{begins, begins_line_at, start_in}
 
 -- ---- what is read
 
@@ -23,27 +25,18 @@ front : (text : List ℕ) (start to reach : ℕ) → to ≤ start + reach → ta
 front text start to reach h =
     take-take (to - (start - 1)) (before (nat_eq start 0) + reach) (drop (start - 1) text) (omega (arith, before_at start, h))
 
-module _ (text : List ℕ) (start reach : ℕ) where
-  abbrev Seen : List ℕ
-  Seen = seen (nat_eq start 0) reach (drop (start - 1) text)
+abbrev Seen : (text : List ℕ) (start reach : ℕ) → List ℕ
+Seen text start reach = seen (nat_eq start 0) reach (drop (start - 1) text)
 
-  -- the items of the lines before another one, in what is read
-  of_front : (line : ℕ) (items : List Item) → line ≤ start + reach → AreBefore text start line items → AreOfFront Seen items
-  of_front line items h (inl none) = inl none
-  of_front line items h (inr are) =
-      let same = sym (front text start line reach h) in
-      inr (line - (start - 1), are.0, subst (λ src. IsRoot (codes "justfile") src are.0) same are.1, subst (λ src. AreItems (length src) are.0 items) same are.2)
+abbrev SeesEnd : (text : List ℕ) (start reach : ℕ) → Bool
+SeesEnd text start reach = sees_end (nat_eq start 0) reach (drop (start - 1) text)
 
-  -- what was read is wrong
-  wrong : (end line : ℕ) (known : Known) (problem : PartProblem) → known.problem ≡ Some problem → end ≤ start + reach → IsNone (read_of text start end)
-      → line ≤ end → AreBefore text start line known.items.items → IsWrong Seen known
-  wrong end line known problem is read none l items = record {
-    problem = problem;
-    problem_is = is;
-    count = end - (start - 1);
-    is_none = subst IsNone (sym (front text start end reach read)) none;
-    items_of_front = of_front line known.items.items (omega (arith, read, l)) items;
-  }
+-- the items of the lines before another one, in what is read
+of_front : (text : List ℕ) (start reach line : ℕ) (items : List Item) → line ≤ start + reach → AreBefore text start line items → AreOfFront (Seen text start reach) items
+of_front text start reach line items h (inl none) = inl none
+of_front text start reach line items h (inr are) =
+    let same = sym (front text start line reach h) in
+    inr (line - (start - 1), are.0, subst (λ src. IsRoot (codes "justfile") src are.0) same are.1, subst (λ src. AreItems (length src) are.0 items) same are.2)
 
 -- what is known of the file of the lines before another one
 pub of_lines : (text read : List ℕ) (start from line : ℕ) (known : Known) (ast : Ast) → from ≡ start - 1 → read ≡ slice_range text from line → IsRoot (codes "justfile") read ast
@@ -71,12 +64,43 @@ ends_at text start end at next size e from a is = by a.stop
         let later : start < next = omega (arith, b.within, e.later, a.after, a.within, a.in_part, from, is) in
         inr (omega (arith, later, is), subst (IsLineStart text) (sym is) (begins_line_at text next (omega (arith, later)) begin))
 
+-- what was read may end where the part may
+may_end : (text : List ℕ) (start reach end : ℕ) → IsEnd text start end → end < start + reach
+    → MayEnd (Seen text start reach) (SeesEnd text start reach) (end - (start - 1))
+may_end text start reach end e read = by e.stop
+  where
+    within : start ≤ length text
+    within = omega (arith, e.forward, e.within)
+
+    by : IsStop text end → MayEnd (Seen text start reach) (SeesEnd text start reach) (end - (start - 1))
+    by (inl last) =
+        let all : Seen text start reach ≡ drop (start - 1) text =
+        take_all _ (drop (start - 1) text) (omega (arith, length-drop (start - 1) text, before_at start, within, last, read)) in
+        inl (at_end text start reach within (omega (arith, last, read)), omega (arith, ap length all, length-drop (start - 1) text, last))
+    by (inr begin) =
+        inr (subst (λ read. is_start read (end - (start - 1)) ≡ true) (sym (seen_is text start reach))
+            (start_in text (start - 1) (start + reach) end (omega (arith, e.forward)) read begin))
+
 -- ---- a part
 
+-- a part that is rejected up to an end is wrong
+wrong : (text : List ℕ) (start end next line : ℕ) (p : Part Known) (problem : PartProblem) → IsEnd text start end → TellsWhy (read_of text start end) problem
+    → next ≤ end → start + p.size ≡ next → p.known.problem ≡ Some problem → end < start + p.reach → line ≤ end → AreBefore text start line p.known.items.items
+    → IsWrong (nat_eq start 0) (Seen text start p.reach) (SeesEnd text start p.reach) p
+wrong text start end next line p problem e why within size is read l items = record {
+  problem = problem;
+  problem_is = is;
+  count = end - (start - 1);
+  may_end = may_end text start p.reach end e read;
+  tells = subst (λ src. TellsWhy src problem) (sym (front text start end p.reach (omega (arith, read)))) why;
+  size_within = omega (arith, before_at start, within, size, e.forward);
+  items_of_front = of_front text start p.reach line p.known.items.items (omega (arith, read, l)) items;
+}
+
 -- a part that is rejected up to an end is the next one
-pub found : (text : List ℕ) (start end at line next : ℕ) (p : Part Known) (problem : PartProblem) → IsEnd text start end → IsNone (read_of text start end) → start ≤ at
+pub found : (text : List ℕ) (start end at line next : ℕ) (p : Part Known) (problem : PartProblem) → IsEnd text start end → TellsWhy (read_of text start end) problem → start ≤ at
     → IsAfter text start end at next → start + p.size ≡ next → p.known.problem ≡ Some problem → end < start + p.reach → line ≤ at → AreBefore text start line p.known.items.items → IsFound text start p
-found text start end at line next p problem e none from a size is read l items = record {
-  next = IsPartOf.wrong (wrong text start p.reach end line p.known problem is (omega (arith, read)) none (omega (arith, l, a.in_part)) items);
+found text start end at line next p problem e why from a size is read l items = record {
+  next = IsPartOf.wrong (wrong text start end next line p problem e why a.within size is read (omega (arith, l, a.in_part)) items);
   ends = ends_at text start end at next p.size e from a size;
 }

@@ -7,16 +7,16 @@ use Rattle.justfile_ast.specs.declared.ast.Ast.{Ast}
 use Rattle.justfile_canonical.specs.Root.{conditions}
 use Rattle.editor_language.specs.declared.parts.Analysis.{Analysis}
 use Rattle.editor_language.specs.declared.parts.Known.{Known}
-use Rattle.justfile_analysis.specs.InText.{all_shown, wrong_count}
+use Rattle.justfile_analysis.specs.InText.{AreTold, all_shown}
 use Rattle.justfile_analysis.specs.Parts.{IsPartOf, IsRight}
 use Rattle.justfile_analysis.specs.RightParts.{IsJoined, Read, chunks_of}
 use Rattle.justfile_analysis.specs.Shown.{shown}
 
--- The text is cut into these parts. Its items are theirs, and there is a problem for each that is wrong.
+-- The text is cut into these parts. Its items are theirs, and its problems those of the parts that are wrong.
 pub record Knows (text : List ℕ) (a : Analysis) : Type 0 where
   pub are_parts : AreParts IsPartOf true text a.parts.items
   pub items_are : map shown a.items.items ≡ all_shown 0 a.parts.items
-  pub problems_are : length a.problems.items ≡ wrong_count a.parts.items
+  pub problems_are : AreTold a.parts.items a.problems.items
 
 -- what a part was read as, by its file
 abbrev pub read_as : Ast → Part Known → Read

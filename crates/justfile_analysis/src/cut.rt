@@ -2,7 +2,7 @@
 ghost use Rattle.std.specs.Prelude.{◌<◌, ◌≤◌, ◌-◌, IfOk, drop, length, nat_eq};
 ghost use Rattle.text_parts.specs.Places.{IsPartStart};
 ghost use Rattle.justfile_analysis.specs.Ends.{IsEnd};
-ghost use Rattle.justfile_analysis.specs.Parts.{IsAttempt, IsFound, IsNone, IsPartOf, read_of};
+ghost use Rattle.justfile_analysis.specs.Parts.{IsAttempt, IsFound, IsPartOf, TellsWhy, read_of};
 
 use crate::ends::{end_after, first_end, further_end};
 use crate::reading::{read_rest, read_up_to};
@@ -93,7 +93,7 @@ fn go_on(
     requires start { IsPartStart text.now start }
     requires end { IsEnd text.now start end }
     requires within { end < length text.now }
-    requires rejected { IsNone (read_of text.now start end) }
+    requires rejected { TellsWhy (read_of text.now start end) rejection.problem }
     ensures { IfOk result (IsAttempt text.now start end) }
 {
     match end_after(text.as_bytes(), start, end, step, rejection.cause) {

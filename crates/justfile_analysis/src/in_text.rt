@@ -1,6 +1,6 @@
 //! What is known of the parts of a justfile, where it is in the text.
-ghost use Rattle.std.specs.Prelude.{◌≡◌, ◌++◌, ◌+◌, IfOk, OnOk, is_some, length, map};
-ghost use Rattle.justfile_analysis.specs.InText.{all_shown, moved_offset, moved_span, moved_shown, shown_in, wrong_count};
+ghost use Rattle.std.specs.Prelude.{◌≡◌, ◌++◌, ◌-◌, IfOk, OnOk, map};
+ghost use Rattle.justfile_analysis.specs.InText.{AreTold, IsToldAt, all_shown, moved_span, moved_shown, shown_in};
 ghost use Rattle.justfile_analysis.specs.Shown.{shown};
 
 use crate::reading::read_start;
@@ -69,7 +69,7 @@ pub(crate) fn problems_in_text(
     text: &str,
     parts: &[Part<Known>],
 ) -> Result<Vec<Problem>, AllocError>
-    ensures { IfOk result (λ problems. length problems.items ≡ wrong_count parts.now) }
+    ensures { IfOk result (λ problems. AreTold parts.now problems.items) }
 {
     let mut problems = Vec::new(alloc);
     let mut start = 0usize;
@@ -89,7 +89,9 @@ fn problem_in_text(
     start: usize,
     reach: usize,
     problem: &PartProblem,
-) -> Result<Problem, AllocError> {
+) -> Result<Problem, AllocError>
+    ensures { IfOk result (IsToldAt (start - 1) problem.now) }
+{
     let base = read_start(start);
     let message = if problem.names_lines {
         message_after(

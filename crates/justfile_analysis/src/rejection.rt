@@ -1,10 +1,9 @@
 //! Why a part of a justfile is rejected.
-ghost use Rattle.std.specs.Prelude.{◌≡◌, ◌<◌, ◌-◌, IfOk, IfSome, codes, length};
-ghost use Rattle.std.specs.List.{slice_range};
+ghost use Rattle.std.specs.Prelude.{◌+◌, ◌≤◌, IfOk, IfSome, codes, length};
 ghost use Rattle.text_parts.specs.Places.{IsPartStart};
 ghost use Rattle.justfile_canonical.specs.Root.{HasNoRoot};
 ghost use Rattle.justfile_analysis.specs.Ends.{IsEnd};
-ghost use Rattle.justfile_analysis.specs.Parts.{IsNone, read_of};
+ghost use Rattle.justfile_analysis.specs.Parts.{IsOfError, IsOfNumbers, TellsWhy, read_of};
 
 use crate::items::editor_span;
 use crate::reading::read_start;
@@ -62,7 +61,8 @@ pub(crate) fn rejection_of(
 ) -> Result<Option<Rejection>, AllocError>
     requires start { IsPartStart text.now start }
     requires end { IsEnd text.now start end }
-    ensures { IfOk result (λ found. IfSome found (λ _. IsNone (read_of text.now start end))) }
+    ensures { IfOk result (λ found.
+        IfSome found (λ rejection. TellsWhy (read_of text.now start end) rejection.problem)) }
 {
     let read = &text[read_start(start)..end];
     match query_root(alloc, "justfile", read, &NoQuery) {
@@ -72,13 +72,18 @@ pub(crate) fn rejection_of(
 }
 
 /// Returns why a text is rejected that has no file for a fault.
+#[tactic(auto, using(
+    crate::proofs::Why::token_within,
+    crate::proofs::Why::told_by,
+    crate::proofs::Why::out_of_numbers
+))]
 pub(crate) fn rejection_for(
     alloc: Global,
     text: &str,
     fault: Fault<'_>,
 ) -> Result<Rejection, AllocError>
     requires { HasNoRoot (codes "justfile") text.now fault }
-    ensures { IfOk result (λ _. IsNone text.now) }
+    ensures { IfOk result (λ rejection. TellsWhy text.now rejection.problem) }
 {
     match fault {
         Fault::Compile(error) => rejection_by(alloc, text, &error),
@@ -92,7 +97,10 @@ fn rejection_by(
     alloc: Global,
     text: &str,
     error: &CompileError<'_>,
-) -> Result<Rejection, AllocError> {
+) -> Result<Rejection, AllocError>
+    requires { error.now.token.offset + error.now.token.length ≤ length text.now }
+    ensures { IfOk result (λ rejection. IsOfError text.now error.now rejection.problem) }
+{
     Ok(Rejection {
         problem: PartProblem {
             span: editor_span(place_of_error(text, error)),
@@ -118,7 +126,9 @@ fn cause_of(error: &CompileError<'_>) -> Cause {
 }
 
 /// Returns the rejection of a text for which numbers don't suffice.
-fn out_of_numbers(alloc: Global) -> Result<Rejection, AllocError> {
+fn out_of_numbers(alloc: Global) -> Result<Rejection, AllocError>
+    ensures { IfOk result (λ rejection. IsOfNumbers rejection.problem) }
+{
     Ok(Rejection {
         problem: PartProblem {
             span: Span { start: 0, end: 0 },

@@ -2,7 +2,7 @@
 ghost use Rattle.std.specs.Prelude.{◌+◌, ◌<◌, ◌≤◌, IfOk, IfSome, length, min};
 ghost use Rattle.text_parts.specs.Places.{IsPartStart};
 ghost use Rattle.justfile_analysis.specs.Ends.{IsEnd, IsStop};
-ghost use Rattle.justfile_analysis.specs.Parts.{AreBefore, IsFound, IsNone, read_of};
+ghost use Rattle.justfile_analysis.specs.Parts.{AreBefore, IsFound, TellsWhy, read_of};
 
 use crate::ends::{STEPS, first_end};
 use crate::reading::{KnownQuery, read_start};
@@ -25,7 +25,7 @@ fn wrong_part(
 ) -> Result<Part<Known>, AllocError>
     requires start { IsPartStart text.now start }
     requires end { IsEnd text.now start end }
-    requires rejected { IsNone (read_of text.now start end) }
+    requires rejected { TellsWhy (read_of text.now start end) rejection.problem }
     ensures { IfOk result (IsFound text.now start) }
 {
     let at = error_place(start, end, &rejection);
@@ -54,7 +54,7 @@ pub(crate) fn refused_part(
 ) -> Result<Part<Known>, AllocError>
     requires start { IsPartStart text.now start }
     requires end { IsEnd text.now start end }
-    requires rejected { IsNone (read_of text.now start end) }
+    requires rejected { TellsWhy (read_of text.now start end) rejection.problem }
     ensures { IfOk result (IsFound text.now start) }
 {
     let first = first_end(text.as_bytes(), start);
@@ -75,7 +75,8 @@ fn open_literal(
 ) -> Result<Option<Rejection>, AllocError>
     requires start { IsPartStart text.now start }
     requires end { IsEnd text.now start first }
-    ensures { IfOk result (λ found. IfSome found (λ _. IsNone (read_of text.now start first))) }
+    ensures { IfOk result (λ found.
+        IfSome found (λ rejection. TellsWhy (read_of text.now start first) rejection.problem)) }
 {
     if step == 0 || STEPS < step {
         return Ok(None);

@@ -121,8 +121,11 @@ pub fn format_long(alloc: Global, source: &str) -> Option<String>
 pub fn format_parts(alloc: Global, source: &str, least: usize) -> Option<String>
     ensures { IfSome result (λ text. IsFormatted source.now (string_bytes text)) }
 {
+    let Ok(printed) = String::with_capacity(alloc, source.len()) else {
+        return None;
+    };
     let mut printer = Printer {
-        printed: String::new(alloc),
+        printed,
         separator: Separator::Start,
         indentation: None,
     };

@@ -1,3 +1,4 @@
 pub mod Allowed
 pub mod Bodies
+pub mod Imported
 pub mod Last

@@ -8,7 +8,7 @@ use Rattle.justfile_facts.specs.Definitions.{item_definitions}
 use Rattle.justfile_facts.specs.Rules.{rules_of}
 use Rattle.justfile_facts.specs.Suspects.{item_suspects, noted}
 use Rattle.justfile_facts.specs.Uses.{item_uses}
-use Rattle.justfile_facts.specs.declared.facts.Facts.{Facts}
+use Rattle.justfile_problems.specs.declared.facts.Facts.{Facts}
 
 -- what each item says by itself, in the order of the items, and what needs the setting `lists`; `imported` is whether another file may import the file
 pub record AreFactsOf (imported : Bool) (all : List Item) (features : List (ListFeature × Token)) (found : Facts) : Type 0 where

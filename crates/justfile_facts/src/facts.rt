@@ -7,23 +7,10 @@ use crate::rules::rules;
 use crate::suspects::{push_features, push_suspects};
 use crate::uses::push_uses;
 use justfile_item::Item;
-use justfile_problems::{Definition, Rules, Suspect, Use};
+use justfile_problems::Facts;
 use justfile_token::Token;
 use justfile_vocabulary::ListFeature;
 use std::alloc::{AllocError, Global};
-
-/// What a file says of names.
-#[derive(Drop)]
-pub struct Facts<'src> {
-    /// What it allows.
-    pub rules: Rules,
-    /// Where its items define names, in their order.
-    pub definitions: Vec<Definition<'src>>,
-    /// Where they use names.
-    pub uses: Vec<Use<'src>>,
-    /// Where they are wrong under some settings.
-    pub suspects: Vec<Suspect<'src>>,
-}
 
 /// Returns what the items of a file say, with the features that need the setting `lists`. `imported`
 /// is whether another file may import it.

@@ -4,9 +4,11 @@
 
 mod definitions;
 mod facts;
+mod imports;
 mod rules;
 mod scopes;
 mod suspects;
 mod uses;
 
-pub use crate::facts::{Facts, facts_of};
+pub use crate::facts::facts_of;
+pub use crate::imports::imports_of;

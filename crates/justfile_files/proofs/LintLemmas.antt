@@ -6,21 +6,17 @@ use Rattle.std.proofs.Common.{Global}
 use Rattle.justfile_files.specs.Failure.{IsMessage, TellFailure, failure_status}
 use Rattle.justfile_files.specs.FileResult.{IsRefused}
 use Rattle.justfile_files.specs.Folder.{Files, KeepsFiles}
-use Rattle.justfile_files.specs.Lint.{AreJudged, Holds, IsJudged, IsTrueOf, IsWritten, Judgement, Leaves, failed, judged, lost, messages_of, rejected, status_of}
+use Rattle.justfile_files.specs.Lint.{AreJudged, IsJudged, IsTrueOf, IsWritten, Judge, Judgement, Leaves, failed, judged, lost, messages_of, rejected, status_of}
 use Rattle.justfile_files.specs.Outcome.{greatest}
 use Rattle.justfile_files.specs.Request.{texts}
-use Rattle.justfile_files.specs.Visible.{visible_name}
 use Rattle.justfile_files.specs.declared.failure.Failure.{Failure}
 use Rattle.justfile_files.specs.declared.failure.Failure.TheVariants as failures
 use Rattle.justfile_files.proofs.OutcomeLemmas.{each_push, flat_map-push, folds_both, greatest-push, texts_all, texts_more}
 
-module _ (finds rejects : (name source lines : List ℕ) → Type 0) {O E : Type 0} (writes loses : O → List ℕ → O → Type 0) (tells : E → List ℕ → E → Type 0) where
-  -- a file whose bytes are known alike
-  same_file : (old new : Files) (name : List ℕ) (j : Judgement) → new name ≡ old name → IsTrueOf finds rejects new name j → IsTrueOf finds rejects old name j
-  same_file old new name (judged lines) e h = subst (λ b. Holds b (λ source. finds (visible_name name) source lines)) e h
-  same_file old new name (lost lines messages) e h = (subst (λ b. Holds b (λ source. finds (visible_name name) source lines)) e h.0, h.1)
-  same_file old new name (rejected lines) e h = subst (λ b. Holds b (λ source. rejects (visible_name name) source lines)) e h
-  same_file old new name (failed message) e h = h
+module _ (finds rejects : Judge) {O E : Type 0} (writes loses : O → List ℕ → O → Type 0) (tells : E → List ℕ → E → Type 0) where
+  -- files that are known alike
+  same_file : (old new : Files) (name : List ℕ) (j : Judgement) → KeepsFiles old new → IsTrueOf finds rejects new name j → IsTrueOf finds rejects old name j
+  same_file old new name j kept h = subst (λ (files : Files). IsTrueOf finds rejects files name j) (λ i. λ n. kept n i) h
 
   -- a file more
   pub one_judged : (old mid : Files) (words : List (String Global)) (i : ℕ) (word : String Global) (name : List ℕ)
@@ -34,7 +30,7 @@ module _ (finds rejects : (name source lines : List ℕ) → Type 0) {O E : Type
         judgements = so_far.judgements ++ s.judgement ∷ [];
         each =
             each_push (IsTrueOf finds rejects old) (IsTrueOf finds rejects old) (texts (take i words)) so_far.judgements name s.judgement (λ n j h. h) so_far.each
-            (same_file old mid name s.judgement (kept name) s.is_true);
+            (same_file old mid name s.judgement kept s.is_true);
         status_is =
             t ∙ ap (λ x. max x more) so_far.status_is ∙ ap (max (greatest (map status_of so_far.judgements))) s.status_is ∙ sym (greatest-push (map status_of so_far.judgements) (status_of s.judgement))
             ∙ ap greatest (sym (map-append status_of so_far.judgements (s.judgement ∷ [])));
@@ -49,7 +45,7 @@ module _ (finds rejects : (name source lines : List ℕ) → Type 0) {O E : Type
   all_judged old words i l {a} {b} {e} {f} {status} h = subst (λ (ns : List (List ℕ)). AreJudged finds rejects old writes loses tells ns a b e f status) (texts_all words i l) h
 
   -- a file whose lines are known
-  pub written_judged : (files : Files) (name lines : List ℕ) {a b : O} {e f : E} {status : ℕ} → Holds (files name) (λ source. finds (visible_name name) source lines)
+  pub written_judged : (files : Files) (name lines : List ℕ) {a b : O} {e f : E} {status : ℕ} → finds files name lines
       → IsWritten writes loses tells name lines a b e f status → IsJudged finds rejects files writes loses tells name a b e f status
   written_judged files name lines {a} {b} {e} {f} {status} h w = record { judgement = w.judgement; is_true = is_true w.judgement w.is; status_is = w.status_is; left = w.left; told = w.told }
     where
@@ -64,11 +60,11 @@ module _ (finds rejects : (name source lines : List ℕ) → Type 0) {O E : Type
 
   -- a file for which the task failed
   pub failure_judged : (files : Files) (name : List ℕ) {a : O} {e f : E} (failure : Failure) (messages : List (List ℕ))
-      → IsRefused (λ lines. Holds (files name) (λ source. rejects (visible_name name) source lines)) failure → TellFailure name failure messages → FoldsTo tells e messages f
+      → IsRefused (rejects files name) failure → TellFailure name failure messages → FoldsTo tells e messages f
       → (status : ℕ) → status ≡ unwrap_or (failure_status failure) 3 → IsJudged finds rejects files writes loses tells name a a e f status
   failure_judged files name {a} {e} {f} failure messages r t told status s = subst (IsJudged finds rejects files writes loses tells name a a e f) (sym s) (case failure r t)
     where
-      case : (x : Failure) → IsRefused (λ lines. Holds (files name) (λ source. rejects (visible_name name) source lines)) x → TellFailure name x messages
+      case : (x : Failure) → IsRefused (rejects files name) x → TellFailure name x messages
           → IsJudged finds rejects files writes loses tells name a a e f (unwrap_or (failure_status x) 3)
       case (failures.Rejected lines) r t =
           record { judgement = rejected (string_bytes lines); is_true = r; status_is = refl; left = refl; told = subst (λ l. FoldsTo tells e l f) t told }

@@ -6,6 +6,8 @@ pub mod Found
 pub mod Lint
 pub mod Outcome
 pub mod Output
+pub mod Path
 pub mod Request
 pub mod Run
+pub mod Sources
 pub mod Visible

@@ -6,7 +6,7 @@ use Rattle.justfile_files.specs.Folder.{Files, KeepsFiles}
 use Rattle.justfile_files.specs.Found.{LeadTo}
 use Rattle.justfile_files.specs.Outcome.{greatest}
 use Rattle.justfile_files.specs.Run.{FindsNone}
-use Rattle.justfile_files.specs.Visible.{visible_name}
+use Rattle.justfile_files.specs.Sources.{AreRead, Source}
 
 -- what a run tells of a file
 pub data Judgement : Type 0 where
@@ -36,9 +36,9 @@ messages_of (lost lines messages) = messages
 messages_of (rejected lines) = lines ∷ []
 messages_of (failed message) = message ∷ []
 
--- a text of which this holds is that of the file, if the file's bytes are known
-abbrev pub Holds : (bytes : Option (List ℕ)) → (List ℕ → Type 0) → Type 0
-Holds bytes P = (source : List ℕ) × IfSome bytes (λ known. source ≡ known) × P source
+-- what lines may tell of the file with a name
+abbrev pub Judge : Type 1
+Judge = (files : Files) (name lines : List ℕ) → Type 0
 
 module _ {O : Type 0} (writes loses : O → List ℕ → O → Type 0) where
   -- The lines were written, or that failed, or there were none to write.
@@ -56,12 +56,26 @@ module _ {O : Type 0} (writes loses : O → List ℕ → O → Type 0) where
     pub left : Leaves output_old judgement output_new
     pub told : FoldsTo tells errors_old (messages_of judgement) errors_new
 
-module _ (finds rejects : (name source lines : List ℕ) → Type 0) (files : Files) where
+-- the files that the one with a name leads to were read, and this holds of them
+pub record OfRead (leads : (path source : List ℕ) → List (List ℕ) → Type 0) (files : Files) (name : List ℕ) (P : List Source → Type 0) : Type 0 where
+  pub read : List Source
+  pub are : AreRead leads files name read
+  pub holds : P read
+
+-- what a linter finds wrong with the file that has a name, and those that it leads to
+abbrev pub Finds : (leads : (path source : List ℕ) → List (List ℕ) → Type 0) (finds : List Source → (missing : List (List ℕ)) → (lines : List ℕ) → Type 0) → Judge
+Finds leads finds files name lines = OfRead leads files name (λ read. (missing : List (List ℕ)) × finds read missing lines)
+
+-- why they can't be judged
+abbrev pub Rejects : (leads : (path source : List ℕ) → List (List ℕ) → Type 0) (rejects : List Source → (lines : List ℕ) → Type 0) → Judge
+Rejects leads rejects files name lines = OfRead leads files name (λ read. rejects read lines)
+
+module _ (finds rejects : Judge) (files : Files) where
   -- what is told of the file with this name is true
   abbrev pub IsTrueOf : (name : List ℕ) → Judgement → Type 0
-  IsTrueOf name (judged lines) = Holds (files name) (λ source. finds (visible_name name) source lines)
-  IsTrueOf name (lost lines messages) = Holds (files name) (λ source. finds (visible_name name) source lines) × All (IsMessage name) messages
-  IsTrueOf name (rejected lines) = Holds (files name) (λ source. rejects (visible_name name) source lines)
+  IsTrueOf name (judged lines) = finds files name lines
+  IsTrueOf name (lost lines messages) = finds files name lines × All (IsMessage name) messages
+  IsTrueOf name (rejected lines) = rejects files name lines
   IsTrueOf name (failed message) = IsMessage name message
 
   module _ {O E : Type 0} (writes loses : O → List ℕ → O → Type 0) (tells : E → List ℕ → E → Type 0) where
@@ -81,7 +95,7 @@ module _ (finds rejects : (name source lines : List ℕ) → Type 0) (files : Fi
       pub left : FoldsTo (Leaves writes loses) output_old judgements output_new
       pub told : FoldsTo tells errors_old (flat_map messages_of judgements) errors_new
 
-module _ (finds rejects : (name source lines : List ℕ) → Type 0) {D : Type 0} (contents : D → Files) (lists : D → List ℕ → Option (List (List ℕ)) → Type 0)
+module _ (finds rejects : Judge) {D : Type 0} (contents : D → Files) (lists : D → List ℕ → Option (List (List ℕ)) → Type 0)
     {O E : Type 0} (writes loses : O → List ℕ → O → Type 0) (tells : E → List ℕ → E → Type 0) where
   -- Each of the files that the names lead to was judged, and no file was changed.
   pub record JudgesAll (names : List (List ℕ)) (old new : D) (output_old output_new : O) (errors_old errors_new : E) (status : ℕ) : Type 0 where

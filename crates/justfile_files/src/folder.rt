@@ -59,6 +59,16 @@ pub trait Folder {
             (λ known. bytes.items ≡ known)) }
         ensures kept { KeepsFiles (contents self.old) (contents self.new) };
 
+    /// Returns the bytes of a file that another one names, if it is one that may be read for that.
+    ///
+    /// # Errors
+    ///
+    /// There is no such file, or it can't be read.
+    fn read_named(&mut self, alloc: Global, name: &str) -> io::Result<Vec<u8>>
+        ensures ok { IfOk result (λ bytes. IfSome (contents self.old name.now)
+            (λ known. bytes.items ≡ known)) }
+        ensures kept { KeepsFiles (contents self.old) (contents self.new) };
+
     /// Replaces the bytes of a file, which are those of the text `source`, by those of another
     /// text, all of them or none.
     ///

@@ -1,10 +1,10 @@
 //! A run that tells what is wrong with files.
-ghost use Rattle.std.specs.Prelude.{◌≡◌, ◌≤◌, ℕ, List, IfErr, IfOk, string_bytes};
+ghost use Rattle.std.specs.Prelude.{◌≡◌, ◌≤◌, IfErr, IfOk, string_bytes};
 ghost use Rattle.justfile_files.specs.FileResult.{IsRefused};
 ghost use Rattle.justfile_files.specs.Folder.{KeepsFiles};
-ghost use Rattle.justfile_files.specs.Lint.{AreJudged, Holds, IsJudged, IsWritten, LintsFiles, lines_status};
+ghost use Rattle.justfile_files.specs.Lint.{AreJudged, Finds, IsJudged, IsWritten, LintsFiles, Rejects, lines_status};
 ghost use Rattle.justfile_files.specs.Request.{texts};
-ghost use Rattle.justfile_files.specs.Visible.{visible_name};
+ghost use Rattle.justfile_files.specs.Sources.{sources};
 
 use crate::failure::{Failure, report};
 use crate::folder::Folder;
@@ -12,10 +12,8 @@ use crate::found::find_files;
 use crate::linter::Linter;
 use crate::messages::Messages;
 use crate::output::Output;
-use crate::place::place_after;
-use crate::visible::visible_name;
+use crate::sources::{SourceFile, read_sources};
 use std::alloc::Global;
-use std::str;
 
 /// Writes what is wrong with each of the files that names lead to, which are those of the justfiles
 /// of a folder and below if the name is one of a folder. If it fails for a file, it tells why and
@@ -31,9 +29,9 @@ pub fn lint<L: Linter, D: Folder, O: Output, E: Messages>(
     output: &mut O,
     errors: &mut E,
 ) -> u8
-    ensures done { LintsFiles L.finds L.rejects D.contents D.lists O.writes O.loses E.tells
-        (texts names.now) folder.old folder.new output.old output.new
-        errors.old errors.new result }
+    ensures done { LintsFiles (Finds L.leads L.finds) (Rejects L.leads L.rejects)
+        D.contents D.lists O.writes O.loses E.tells (texts names.now)
+        folder.old folder.new output.old output.new errors.old errors.new result }
     ensures silent { result ≤ 1 → errors.new ≡ errors.old }
 {
     let Ok(found) = find_files(alloc, folder, names) else {
@@ -53,7 +51,8 @@ fn lint_files<L: Linter, D: Folder, O: Output, E: Messages>(
     errors: &mut E,
 ) -> u8
     ensures kept { KeepsFiles (D.contents folder.old) (D.contents folder.new) }
-    ensures judged { AreJudged L.finds L.rejects (D.contents folder.old) O.writes O.loses E.tells
+    ensures judged { AreJudged (Finds L.leads L.finds) (Rejects L.leads L.rejects)
+        (D.contents folder.old) O.writes O.loses E.tells
         (texts names.now) output.old output.new errors.old errors.new result }
     ensures silent { result ≤ 1 → errors.new ≡ errors.old }
 {
@@ -77,7 +76,8 @@ fn lint_file<L: Linter, D: Folder, O: Output, E: Messages>(
     errors: &mut E,
 ) -> u8
     ensures kept { KeepsFiles (D.contents folder.old) (D.contents folder.new) }
-    ensures judged { IsJudged L.finds L.rejects (D.contents folder.old) O.writes O.loses E.tells
+    ensures judged { IsJudged (Finds L.leads L.finds) (Rejects L.leads L.rejects)
+        (D.contents folder.old) O.writes O.loses E.tells
         name.now output.old output.new errors.old errors.new result }
     ensures silent { result ≤ 1 → errors.new ≡ errors.old }
 {
@@ -87,7 +87,7 @@ fn lint_file<L: Linter, D: Folder, O: Output, E: Messages>(
     }
 }
 
-/// Returns the lines that tell what is wrong with the file of this name.
+/// Returns the lines that tell what is wrong with the file of this name and those that it leads to.
 fn lines_of_file<L: Linter, D: Folder>(
     alloc: Global,
     linter: &L,
@@ -95,38 +95,28 @@ fn lines_of_file<L: Linter, D: Folder>(
     name: &str,
 ) -> Result<String, Failure>
     ensures kept { KeepsFiles (D.contents folder.old) (D.contents folder.new) }
-    ensures ok { IfOk result (λ lines. Holds (D.contents folder.old name.now)
-        (λ source. L.finds (visible_name name.now) source (string_bytes lines))) }
-    ensures err { IfErr result (IsRefused (λ lines. Holds (D.contents folder.old name.now)
-        (λ source. L.rejects (visible_name name.now) source lines))) }
+    ensures ok { IfOk result (λ lines. Finds L.leads L.finds (D.contents folder.old) name.now
+        (string_bytes lines)) }
+    ensures err { IfErr result
+        (IsRefused (Rejects L.leads L.rejects (D.contents folder.old) name.now)) }
 {
-    let bytes = match folder.read(alloc, name) {
-        Ok(bytes) => bytes,
-        Err(error) => return Err(Failure::Reading(error)),
-    };
-    let source = match str::from_utf8(&bytes) {
-        Ok(source) => source,
-        Err(error) => return Err(Failure::NotUtf8(place_after(&bytes, error.valid_up_to()))),
-    };
-    lines_of_text(alloc, linter, name, source)
+    let read = read_sources(alloc, linter, folder, name)?;
+    lines_of_sources(alloc, linter, &read.files, &read.missing)
 }
 
-/// Returns the lines that tell what is wrong with the text of the file with this name.
+/// Returns the lines that tell what is wrong with the first of the files and those that it leads to.
 #[tactic(auto, using(crate::proofs::FormatLemmas::refused))]
-fn lines_of_text<L: Linter>(
+fn lines_of_sources<L: Linter>(
     alloc: Global,
     linter: &L,
-    name: &str,
-    source: &str,
+    files: &[SourceFile],
+    missing: &[String],
 ) -> Result<String, Failure>
     ensures ok { IfOk result
-        (λ lines. L.finds (visible_name name.now) source.now (string_bytes lines)) }
-    ensures err { IfErr result (IsRefused (L.rejects (visible_name name.now) source.now)) }
+        (λ lines. L.finds (sources files.now) (texts missing.now) (string_bytes lines)) }
+    ensures err { IfErr result (IsRefused (L.rejects (sources files.now))) }
 {
-    let Ok(visible) = visible_name(alloc, name) else {
-        return Err(Failure::Exhausted("out of memory"));
-    };
-    match linter.lint(alloc, visible.as_str(), source) {
+    match linter.lint(alloc, files, missing) {
         Ok(lines) => Ok(lines),
         Err(refusal) => Err(Failure::from(refusal)),
     }

@@ -11,7 +11,7 @@ use std::alloc::{AllocError, Global};
 
 /// For how many problems of a file a name is looked for that may be meant. Each takes a comparison with
 /// all names of the file, and who has more problems looks at the first ones.
-const SUGGESTED: usize = 16;
+pub(crate) const SUGGESTED: usize = 16;
 
 /// Returns what an editor is told of problems and circles of a file, in the order of the text. The file
 /// has these definitions and uses of names.

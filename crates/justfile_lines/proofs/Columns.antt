@@ -44,7 +44,7 @@ line_before text line at h some =
     let e : at - 1 + 1 ≡ at = omega arith in
     sym (line_after text (at - 1) before (h.begins some)) ∙ ap (line_at text) e ∙ h.line_is
 
-without_feeds : (text : List ℕ) → feeds text ≡ 0 → last_line text ≡ text
+pub without_feeds : (text : List ℕ) → feeds text ≡ 0 → last_line text ≡ text
 without_feeds [] e = refl
 without_feeds (c ∷ text) e = cond-false _ (last_line text) (c ∷ text) (le-ltb 0 (feeds (c ∷ text)) (omega arith))
 

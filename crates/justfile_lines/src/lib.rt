@@ -3,6 +3,7 @@
 #![tactic(auto)]
 
 mod encoding;
+mod going;
 mod lines;
 mod position;
 mod walk;

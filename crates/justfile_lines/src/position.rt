@@ -21,12 +21,14 @@ pub struct Place {
 
 impl Place {
     ghost use Rattle.std.specs.Prelude.{◌≡◌, ℕ, List};
+    ghost use Rattle.justfile_lines.specs.Going.{first_place};
     ghost use Rattle.justfile_lines.specs.Positions.{IsPlace};
     ghost use Rattle.justfile_lines.specs.declared.encoding.Encoding.{Encoding};
 
     /// Returns the place of the beginning of any text.
     pub fn start() -> Self
         ensures offset { result.offset ≡ 0 }
+        ensures first { result ≡ first_place }
         ensures is { (encoding : Encoding) (text : List ℕ) → IsPlace encoding text result }
     {
         Place {

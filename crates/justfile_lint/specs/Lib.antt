@@ -1,2 +1,3 @@
 pub mod Lint
+pub mod Modules
 pub mod Names

@@ -4,8 +4,8 @@ ghost use Rattle.std.specs.List.Sorted.{IsNonDecreasingBy};
 ghost use Rattle.justfile_lint.specs.Lint.{AreFindingsOf, problems_of};
 
 use justfile_ast::Ast;
-use justfile_facts::{Facts, facts_of};
-use justfile_problems::{Circle, Problem, circles_of, problems};
+use justfile_facts::facts_of;
+use justfile_problems::{Circle, Facts, Problem, circles_of, problems};
 use std::alloc::{AllocError, Global};
 
 /// Returns the problems of a file, in the order of the text. `imported` is whether another file may

@@ -2,7 +2,9 @@
 #![tactic(auto)]
 
 mod file;
+mod module;
 mod name;
 
 pub use crate::file::{Findings, lint, lint_with_circles};
+pub use crate::module::{file_imports, module_file};
 pub use crate::name::may_be_imported;

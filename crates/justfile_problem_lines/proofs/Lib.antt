@@ -1,2 +1,5 @@
+pub mod More
+pub mod Parts
+pub mod Paths
 pub mod Rests
 pub mod Told

@@ -6,13 +6,13 @@ use Rattle.std.proofs.lemmas.List.{take_more}
 use Rattle.justfile_token.specs.declared.compile_error.CompileError.{CompileError}
 use Rattle.justfile_problem_lines.specs.Lines.{AddsLines, TellErrors, error_text}
 
-module _ {X : Type 0} (source : List ℕ) (R : X → CompileError → Type 0) where
-  each_push : (xs : List X) (es : List CompileError) (x : X) (e : CompileError) → AllZip R xs es → R x e → AllZip R (xs ++ x ∷ []) (es ++ e ∷ [])
-  each_push [] [] x e h k = (k, tt)
-  each_push [] (f ∷ es) x e h k = absurd h
-  each_push (y ∷ xs) [] x e h k = absurd h
-  each_push (y ∷ xs) (f ∷ es) x e h k = (h.0, each_push xs es x e h.1 k)
+pub each_push : {X Y : Type 0} (R : X → Y → Type 0) (xs : List X) (ys : List Y) (x : X) (y : Y) → AllZip R xs ys → R x y → AllZip R (xs ++ x ∷ []) (ys ++ y ∷ [])
+each_push R [] [] x y h k = (k, tt)
+each_push R [] (b ∷ ys) x y h k = absurd h
+each_push R (a ∷ xs) [] x y h k = absurd h
+each_push R (a ∷ xs) (b ∷ ys) x y h k = (h.0, each_push R xs ys x y h.1 k)
 
+module _ {X : Type 0} (source : List ℕ) (R : X → CompileError → Type 0) where
   -- what was appended, if it was
   pub adds : {A E : Type 0} (r : Result A E) (x : X) (error : CompileError) (old new : List ℕ) → R x error → OnOk r (new ≡ old ++ error_text source error) → OnOk r (AddsLines source R x old new)
   adds (Ok a) x error old new is h = record { error = error; is = is; added = h }
@@ -25,7 +25,7 @@ module _ {X : Type 0} (source : List ℕ) (R : X → CompileError → Type 0) wh
       subst (λ l. TellErrors source R l new) (sym (take_more xs i x inside ∙ ap (λ y. take i xs ++ y ∷ []) (sym at)))
       (record {
         errors = so_far.errors ++ more.error ∷ [];
-        each = each_push (take i xs) so_far.errors x more.error so_far.each more.is;
+        each = each_push R (take i xs) so_far.errors x more.error so_far.each more.is;
         are =
             more.added ∙ ap (λ l. l ++ error_text source more.error) so_far.are
             ∙ sym (flat_map-append (error_text source) so_far.errors (more.error ∷ [])

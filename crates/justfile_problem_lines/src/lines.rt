@@ -31,7 +31,7 @@ pub fn all_lines(
 }
 
 /// Appends a text.
-fn append(text: &String, lines: &mut String) -> Result<(), AllocError>
+pub(crate) fn append(text: &String, lines: &mut String) -> Result<(), AllocError>
     ensures { OnOk result
         (string_bytes lines.new ≡ string_bytes lines.old ++ string_bytes text.now) }
 {

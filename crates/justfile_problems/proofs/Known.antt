@@ -1,5 +1,5 @@
 -- All problems, from tables that have the first definitions.
-use Rattle.std.proofs.Common.{◌≡◌, ◌∙◌, ◌++◌, List, [], ap, IsPermutation, subst}
+use Rattle.std.proofs.Common.{◌≡◌, ◌∙◌, ◌<◌, ◌++◌, Global, IfOk, List, [], ◌∷◌, Vec, ap, arith, length, IsPermutation, OnOk, Result, subst}
 use Rattle.justfile_problems.specs.declared.facts.Definition.{Definition}
 use Rattle.justfile_problems.specs.declared.facts.Rules.{Rules}
 use Rattle.justfile_problems.specs.declared.facts.Suspect.{Suspect}
@@ -7,7 +7,7 @@ use Rattle.justfile_problems.specs.declared.facts.Use.{Use}
 use Rattle.justfile_problems.specs.declared.names.Names.{Names}
 use Rattle.justfile_problems.specs.declared.problem.Problem.{Problem}
 use Rattle.justfile_problems.specs.Names.{HasFirsts, first, known}
-use Rattle.justfile_problems.specs.Problems.{all_problems, definition_problems, suspect_problems, use_problems}
+use Rattle.justfile_problems.specs.Problems.{all_problems, definition_problems, problems_within, suspect_problems, use_problems, within}
 
 -- the tables and the definitions say the same of each name
 pub are_known : (names : Names) (ds : List Definition) → HasFirsts ds names → known names ≡ first ds
@@ -21,3 +21,26 @@ all_found rules names ds us ss a b c d h ea eb ec p =
     let of_suspects = suspect_problems rules (known names) ss in
     subst (λ l. IsPermutation l d)
     (ec ∙ ap (λ l. l ++ of_suspects) (eb ∙ ap (λ l. l ++ of_uses) ea) ∙ ap (λ k. definition_problems rules k ds ++ use_problems rules k us ++ suspect_problems rules k ss) (are_known names ds h)) p
+
+-- what is wrong with definitions, from a table that has the first ones
+pub own_found : {A E : Type 0} (r : Result A E) (rules : Rules) (names : Names) (ds : List Definition) (old new : List Problem) → HasFirsts ds names
+    → OnOk r (new ≡ old ++ definition_problems rules (known names) ds) → OnOk r (new ≡ old ++ definition_problems rules (first ds) ds)
+own_found r rules names ds old new h f = subst (λ k. OnOk r (new ≡ old ++ definition_problems rules k ds)) (are_known names ds h) f
+
+-- all problems of a file of a module
+pub within_found : (rules : Rules) (names : Names) (all own known_here : List Definition) (us : List Use) (ss : List Suspect) (a b c d : List Problem) → known_here ≡ within all own
+    → HasFirsts known_here names → a ≡ [] ++ definition_problems rules (first own) own → b ≡ a ++ use_problems rules (known names) us → c ≡ b ++ suspect_problems rules (known names) ss
+    → IsPermutation c d → IsPermutation (problems_within rules all own us ss) d
+within_found rules names all own known_here us ss a b c d is h ea eb ec p =
+    let of_uses = use_problems rules (known names) us in
+    let of_suspects = suspect_problems rules (known names) ss in
+    let of_own = definition_problems rules (first own) own in
+    subst (λ l. IsPermutation l d)
+    (ec ∙ ap (λ l. l ++ of_suspects) (eb ∙ ap (λ l. l ++ of_uses) ea)
+    ∙ ap (λ k. of_own ++ use_problems rules k us ++ suspect_problems rules k ss) (are_known names known_here h ∙ ap first is)) p
+
+-- a file that shares nothing
+pub alone : {E : Type 0} (r : Result (Vec Problem Global) E) (rules : Rules) (all own : List Definition) (us : List Use) (ss : List Suspect) → length all < 1
+    → IfOk r (λ found. IsPermutation (all_problems rules own us ss) found.items) → IfOk r (λ found. IsPermutation (problems_within rules all own us ss) found.items)
+alone r rules [] own us ss none h = h
+alone r rules (d ∷ ds) own us ss none h = absurd (omega arith)

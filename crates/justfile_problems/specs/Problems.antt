@@ -1,6 +1,6 @@
 -- What is wrong with the names of a file.
-use Rattle.std.specs.Prelude.{◌&&◌, ◌||◌, ℕ, Bool, true, false, not, List, [], ◌++◌, Option, Some, None, cond, is_some, nat_eq, nat_lt, option_to_list}
-use Rattle.std.specs.List.{flat_map}
+use Rattle.std.specs.Prelude.{◌&&◌, ◌||◌, ℕ, Bool, true, false, not, List, [], ◌∷◌, ◌++◌, Option, Some, None, cond, is_some, nat_eq, nat_lt, option_to_list}
+use Rattle.std.specs.List.{flat_map, list_any}
 use Rattle.std.specs.Str.{bytes_eq}
 use Rattle.justfile_builtins.specs.Constants.{is_constant}
 use Rattle.justfile_builtins.specs.Functions.{arguments_of}
@@ -222,3 +222,35 @@ module _ (rules : Rules) (known : Space → (scope : ℕ) → (text : List ℕ) 
 -- all that is wrong
 abbrev pub all_problems : Rules → List Definition → List Use → List Suspect → List Problem
 all_problems rules ds us ss = definition_problems rules (first ds) ds ++ use_problems rules (first ds) us ++ suspect_problems rules (first ds) ss
+
+-- whether the files of a module share the names of a set: an item has its own, and what is compared by places is in one file
+abbrev pub is_shared : Space → Bool
+is_shared spaces.Defaults = false
+is_shared spaces.ExclusiveSettings = false
+is_shared spaces.Parameters = false
+is_shared other = true
+
+abbrev pub shared_of : Definition → List Definition
+shared_of d = cond (is_shared d.space) (d ∷ []) []
+
+-- what a file of a module knows: first what the module's files share, in their order, and then its own
+abbrev pub within : (all own : List Definition) → List Definition
+within all own = flat_map shared_of all ++ own
+
+-- All that is wrong with a file of a module. Its definitions are judged among themselves, and all else by what the module defines.
+abbrev pub problems_within : Rules → (all own : List Definition) → List Use → List Suspect → List Problem
+problems_within rules all own us ss =
+    definition_problems rules (first own) own ++ use_problems rules (first (within all own)) us ++ suspect_problems rules (first (within all own)) ss
+
+-- what files allow together, where other ones may define names or not
+abbrev pub joined : (may_be_more : Bool) → List Rules → Rules
+joined may_be_more all =
+    record {
+      default_script = list_any (λ (r : Rules). r.default_script) all;
+      duplicate_recipes = list_any (λ (r : Rules). r.duplicate_recipes) all;
+      duplicate_variables = list_any (λ (r : Rules). r.duplicate_variables) all;
+      guards = list_any (λ (r : Rules). r.guards) all;
+      ignore_comments = list_any (λ (r : Rules). r.ignore_comments) all;
+      lists = list_any (λ (r : Rules). r.lists) all;
+      «open» = may_be_more;
+    }

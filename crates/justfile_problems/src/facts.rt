@@ -137,3 +137,69 @@ pub struct Rules {
     /// Other files may define names and set settings: the file imports one, or may be imported.
     pub open: bool,
 }
+
+/// What a file says of names.
+#[derive(Drop)]
+pub struct Facts<'src> {
+    /// What it allows.
+    pub rules: Rules,
+    /// Where its items define names, in their order.
+    pub definitions: Vec<Definition<'src>>,
+    /// Where they use names.
+    pub uses: Vec<Use<'src>>,
+    /// Where they are wrong under some settings.
+    pub suspects: Vec<Suspect<'src>>,
+}
+
+/// Where an import leads.
+#[derive(Clone, Copy, Debug, PartialEq, Eq)]
+pub enum Target {
+    /// To the file with this index.
+    File(usize),
+    /// To no file.
+    Nothing,
+    /// It isn't known.
+    Unknown,
+}
+
+/// An import of one file by another.
+#[derive(Clone, Copy)]
+pub struct Link<'src> {
+    /// The index of the file that has it.
+    pub from: usize,
+    /// Where it leads.
+    pub target: Target,
+    /// Whether it need not lead to a file.
+    pub optional: bool,
+    /// The token of its path.
+    pub token: Token<'src>,
+}
+
+/// An import, as it is written.
+#[derive(Drop)]
+pub struct Import<'src> {
+    /// The path as it is meant: without delimiters, and with escapes replaced.
+    pub path: String,
+    /// Whether the path leads to the file as it is: it isn't expanded as in a shell, and doesn't begin
+    /// with `~`.
+    pub plain: bool,
+    /// Whether the file need not exist.
+    pub optional: bool,
+    /// The token of the path.
+    pub token: Token<'src>,
+}
+
+/// A file of a module.
+#[derive(Drop)]
+pub struct ModuleFile<'src> {
+    /// Its name in messages.
+    pub name: &'src str,
+    /// Its path, by which others import it.
+    pub path: &'src str,
+    /// Its text.
+    pub source: &'src str,
+    /// What it says of names.
+    pub facts: Facts<'src>,
+    /// Its imports.
+    pub imports: Vec<Import<'src>>,
+}

@@ -10,6 +10,7 @@ mod facts;
 mod judged;
 mod key;
 mod listing;
+mod module;
 mod names;
 mod nodes;
 mod problem;
@@ -18,6 +19,10 @@ mod suspects;
 mod uses;
 
 pub use crate::circular::{Circle, circles_of};
-pub use crate::facts::{Definition, Role, Rules, Space, Suspect, SuspectKind, Use};
+pub use crate::facts::{
+    Definition, Facts, Import, Link, ModuleFile, Role, Rules, Space, Suspect, SuspectKind, Target,
+    Use,
+};
 pub use crate::listing::problems;
+pub use crate::module::{joined, problems_within};
 pub use crate::problem::{Problem, What};

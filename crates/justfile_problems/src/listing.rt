@@ -40,7 +40,7 @@ pub fn problems<'src>(
 
 /// Appends what is wrong with definitions.
 #[tactic(auto, using(std::proofs::lemmas::List::flat_map_more, std::proofs::lemmas::List::take_more))]
-fn push_of_definitions<'src>(
+pub(crate) fn push_of_definitions<'src>(
     rules: Rules,
     names: &Names<'src>,
     definitions: &[Definition<'src>],
@@ -57,7 +57,7 @@ fn push_of_definitions<'src>(
 
 /// Appends what is wrong with uses.
 #[tactic(auto, using(std::proofs::lemmas::List::flat_map_more, std::proofs::lemmas::List::take_more))]
-fn push_of_uses<'src>(
+pub(crate) fn push_of_uses<'src>(
     rules: Rules,
     names: &Names<'src>,
     uses: &[Use<'src>],
@@ -74,7 +74,7 @@ fn push_of_uses<'src>(
 
 /// Appends what is wrong with suspects.
 #[tactic(auto, using(std::proofs::lemmas::List::flat_map_more, std::proofs::lemmas::List::take_more))]
-fn push_of_suspects<'src>(
+pub(crate) fn push_of_suspects<'src>(
     rules: Rules,
     names: &Names<'src>,
     suspects: &[Suspect<'src>],

@@ -1,5 +1,6 @@
 //! Spans and lines.
 ghost use Rattle.std.specs.Prelude.{◌≡◌, ◌≤◌, count_by, length};
+ghost use Rattle.justfile_spans.specs.Spans.{span};
 ghost use Rattle.justfile_recovery.specs.Places.{LiesIn};
 
 use justfile_spans::Span;
@@ -7,7 +8,8 @@ use justfile_spans::Span;
 /// Returns the span from one offset up to another one, or as much of it as lies in a text of this
 /// length.
 pub fn span_in(length: usize, start: usize, end: usize) -> Span
-    ensures { LiesIn length result }
+    ensures inside { LiesIn length result }
+    ensures whole { start ≤ end → end ≤ length → result ≡ span start end }
 {
     let end = end.min(length);
     Span {

@@ -1,5 +1,5 @@
 -- What is told of a file.
-use Rattle.std.proofs.Common.{◌≡◌, ◌∙◌, ℕ, Bool, List, [], Result, Ok, Err, IfOk, codes, subst}
+use Rattle.std.proofs.Common.{◌≡◌, ◌∙◌, ℕ, Bool, List, [], Result, Ok, Err, IfOk, subst}
 use Rattle.std.specs.Global.{Vec}
 use Rattle.std.specs.List.{flat_map}
 use Rattle.justfile_ast.specs.declared.ast.Ast.{Ast}
@@ -8,14 +8,12 @@ use Rattle.justfile_problems.specs.declared.facts.Definition.{Definition}
 use Rattle.justfile_problems.specs.declared.facts.Use.{Use}
 use Rattle.justfile_problems.specs.declared.problem.Problem.{Problem}
 use Rattle.justfile_facts.specs.Uses.{item_uses}
-use Rattle.justfile_canonical.specs.Root.{IsRoot}
 use Rattle.justfile_lint.specs.Lint.{AreFindingsOf as AreLinted}
-use Rattle.justfile_lint.specs.Names.{may_be_imported}
 use Rattle.justfile_lint.specs.declared.file.Findings.{Findings}
 use Rattle.justfile_findings.specs.Findings.{AreFindings}
 use Rattle.editor_language.specs.declared.parts.Finding.{Finding}
 use Rattle.justfile_analysis.specs.Parts.{IsNone}
-use Rattle.justfile_server.specs.Findings.{AreFindingsOf, AreInText, of_none, of_tree}
+use Rattle.justfile_server.specs.Findings.{AreFindingsOf, AreInText, of_none}
 
 -- what is told of what was found
 pub of_file : {E : Type 0} (imported : Bool) (ast : Ast) (linted : Findings) (ps : List Problem) (cs : List Circle) (ds : List Definition) (us : List Use) (r : Result (Vec Finding) E)
@@ -35,11 +33,7 @@ of_file imported ast linted ps cs ds us (Ok found) are ps_are cs_are ds_are us_a
       (subst (λ (it : List Problem). AreFindings ds us it cs found.items) ps_are told)));
 }
 
--- what is told of a text with a tree, and of one without
-pub with_tree : (uri text : List ℕ) (imported : Bool) (found : List Finding) → imported ≡ may_be_imported uri → (ast : Ast) × IsRoot (codes "justfile") text ast × AreFindingsOf imported ast found
-    → AreInText uri text found
-with_tree uri text imported found e h = of_tree h.0 h.1 (subst (λ (b : Bool). AreFindingsOf b h.0 found) e h.2)
-
-pub without_tree : {E : Type 0} (r : Result (Vec Finding) E) (uri text : List ℕ) → IsNone text → IfOk r (λ found. found.items ≡ []) → IfOk r (λ found. AreInText uri text found.items)
-without_tree (Ok found) uri text none h = of_none none h
-without_tree (Err e) uri text none h = tt
+-- what is told of a text without a tree
+pub without_tree : {E : Type 0} (r : Result (Vec Finding) E) (imported : Bool) (text : List ℕ) → IsNone text → IfOk r (λ found. found.items ≡ []) → IfOk r (λ found. AreInText imported text found.items)
+without_tree (Ok found) imported text none h = of_none none h
+without_tree (Err e) imported text none h = tt

@@ -1,5 +1,6 @@
 pub mod FindingsOfFile
 pub mod Firsts
+pub mod FixesOfFile
 pub mod Given
 pub mod ItemMentions
 pub mod Linked

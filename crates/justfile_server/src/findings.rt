@@ -1,19 +1,22 @@
 //! What is wrong with what a justfile says.
-ghost use Rattle.std.specs.Prelude.{◌≡◌, [], IfOk, length, nat_lt};
-ghost use Rattle.justfile_server.specs.Findings.{AreFindingsOf, AreFound, AreInShort, AreInText, limit};
+ghost use Rattle.std.specs.Prelude.{◌≡◌, [], IfOk};
+ghost use Rattle.justfile_server.specs.Blanks.{without_wrong};
+ghost use Rattle.justfile_server.specs.Findings.{AreBeside, AreFindingsOf, AreFound, AreInText};
 
-use editor_language::{Finding, Problem};
+use crate::blanks::without_wrong;
+use editor_language::{Analysis, Finding, Known};
 use justfile_ast::Ast;
 use justfile_canonical::reading::{Query, query_root};
 use justfile_findings::findings;
 use justfile_lint::{lint_with_circles, may_be_imported};
 use justfile_token::Fault;
 use std::alloc::{AllocError, Global};
+use text_parts::Part;
 
 /// The longest text, in bytes, that is looked at: at each change it is parsed as a whole, and what it
 /// says is looked at, which takes less time than one notices when typing. What is written by hand is
 /// shorter.
-const LIMIT: usize = 131_072;
+pub(crate) const LIMIT: usize = 131_072;
 
 /// Asks a justfile for what is wrong with what it says.
 #[derive(Drop)]
@@ -51,42 +54,49 @@ fn file_findings(
     )
 }
 
-/// Returns what is wrong with what a text says in which these are wrong: if something is, nothing more
-/// is told. It is the text of the document with an address.
+/// Returns what is wrong with what a text says. It is the text of the document with an address.
 pub(crate) fn findings_of(
     alloc: Global,
     uri: &str,
     text: &str,
-    problems: &[Problem],
+    analysis: &Analysis,
 ) -> Result<Vec<Finding>, AllocError>
-    ensures { IfOk result (λ found.
-        AreFound uri.now text.now problems.now found.items) }
-{
-    match problems {
-        [] => short_findings(alloc, uri, text),
-        [_, ..] => no_findings(alloc),
-    }
-}
-
-/// Returns what is wrong with what a text says, if it isn't too long.
-fn short_findings(alloc: Global, uri: &str, text: &str) -> Result<Vec<Finding>, AllocError>
-    ensures { IfOk result (λ found.
-        AreInShort uri.now text.now (nat_lt limit (length text.now)) found.items) }
+    ensures { IfOk result (λ found. AreFound uri.now text.now analysis.now found.items) }
 {
     if LIMIT < text.len() {
-        no_findings(alloc)
-    } else {
-        findings_in(alloc, uri, text)
+        return no_findings(alloc);
+    }
+    match analysis.problems.as_slice() {
+        [] => findings_in(alloc, may_be_imported(uri), text),
+        [_, ..] => findings_beside(alloc, text, &analysis.parts),
     }
 }
 
-/// Returns what is wrong with what a text says, if it is a justfile. The address of its document ends as
-/// the file's path does, as far as it matters: the names of the files that no other one imports have no
-/// character that an address escapes.
-fn findings_in(alloc: Global, uri: &str, text: &str) -> Result<Vec<Finding>, AllocError>
-    ensures { IfOk result (λ found. AreInText uri.now text.now found.items) }
+/// Returns what is wrong with what a text says beside what is wrong in its parts. Names that it lacks may
+/// be there.
+fn findings_beside(
+    alloc: Global,
+    text: &str,
+    parts: &[Part<Known>],
+) -> Result<Vec<Finding>, AllocError>
+    ensures { IfOk result (λ found. AreBeside (without_wrong 0 parts.now text.now) found.items) }
 {
-    let imported = may_be_imported(uri);
+    let bytes = without_wrong(alloc, text.as_bytes(), parts)?;
+    match str::from_utf8(&bytes) {
+        Ok(others) => findings_in(alloc, true, others),
+        Err(_) => no_findings(alloc),
+    }
+}
+
+/// Returns what is wrong with what a text says, if it is a justfile. `imported` is whether another file
+/// may import it.
+fn findings_in(
+    alloc: Global,
+    imported: bool,
+    text: &str,
+) -> Result<Vec<Finding>, AllocError>
+    ensures { IfOk result (λ found. AreInText imported text.now found.items) }
+{
     match query_root(alloc, "justfile", text, &FindingQuery { imported }) {
         Ok(found) => Ok(found),
         Err(Fault::Memory) => Err(AllocError),

@@ -5,6 +5,7 @@ ghost use Rattle.justfile_mentions.specs.Names.{IsName};
 ghost use Rattle.justfile_analysis.specs.Knowledge.{Knows};
 ghost use Rattle.justfile_server.specs.Choices.{AreChoices};
 ghost use Rattle.justfile_server.specs.Findings.{AreFound};
+ghost use Rattle.justfile_server.specs.Fixes.{AreFixesFor};
 ghost use Rattle.justfile_server.specs.Links.{IsPathOf, Links};
 ghost use Rattle.justfile_server.specs.Mentioned.{Mentioned};
 
@@ -12,12 +13,13 @@ use crate::choices::choices_at;
 use crate::chunk::description_of;
 use crate::colors::colors_of;
 use crate::findings::findings_of;
+use crate::fixes::fixes_of;
 use crate::links::links_of;
 use crate::mentions::mentions_of;
 use crate::modules::Folders;
 use crate::ranges::formatted_in;
 use editor_language::{
-    Analysis, Choices, Colored, FileLink, Finding, Language, Mention, Replacement, Span,
+    Analysis, Choices, Colored, FileLink, Finding, Language, Mention, QuickFix, Replacement, Span,
 };
 use justfile_analysis::{analysis_after, analysis_of};
 use justfile_canonical::fault::FormatFault;
@@ -39,8 +41,7 @@ impl<F: Folders> Language for Justfiles<'_, F> {
 
     ghost knows = { Knows };
 
-    ghost finds = { λ uri text analysis found.
-        AreFound uri text analysis.problems.items found };
+    ghost finds = { AreFound };
 
     ghost mentioned = { Mentioned };
 
@@ -50,6 +51,9 @@ impl<F: Folders> Language for Justfiles<'_, F> {
         Links (IsPathOf F.has folder text) analysis.items.items links };
 
     ghost completed = { AreChoices };
+
+    ghost fixed = { λ uri text analysis fixes.
+        AreFixesFor uri text analysis.problems.items fixes };
 
     fn analysis(&self, alloc: Global, text: &str) -> Result<Analysis, AllocError> {
         analysis_of(alloc, text)
@@ -72,7 +76,7 @@ impl<F: Folders> Language for Justfiles<'_, F> {
         text: &str,
         analysis: &Analysis,
     ) -> Result<Vec<Finding>, AllocError> {
-        findings_of(alloc, uri, text, &analysis.problems)
+        findings_of(alloc, uri, text, analysis)
     }
 
     #[tactic(auto, using(crate::proofs::Unformatted::no_justfile, crate::proofs::Unformatted::not_printable, crate::proofs::Unformatted::no_numbers))]
@@ -133,6 +137,16 @@ impl<F: Folders> Language for Justfiles<'_, F> {
         offset: usize,
     ) -> Result<Choices, AllocError> {
         choices_at(alloc, text, mentions, offset)
+    }
+
+    fn fixes(
+        &self,
+        alloc: Global,
+        uri: &str,
+        text: &str,
+        analysis: &Analysis,
+    ) -> Result<Vec<QuickFix>, AllocError> {
+        fixes_of(alloc, uri, text, &analysis.problems)
     }
 
     fn colored(

@@ -2,11 +2,13 @@
 //! output.
 #![tactic(auto)]
 
+mod blanks;
 mod choices;
 mod chunk;
 mod colors;
 mod commit;
 mod findings;
+mod fixes;
 mod justfiles;
 mod links;
 mod mentions;

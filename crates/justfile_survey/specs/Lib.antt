@@ -1,3 +1,4 @@
+pub mod Errors
 pub mod Items
 pub mod Parts
 pub mod Seen

@@ -1,7 +1,8 @@
 //! Errors of texts and of their parts.
-ghost use Rattle.std.specs.Prelude.{◌+◌, IfOk, length};
+ghost use Rattle.std.specs.Prelude.{◌≡◌, ◌+◌, ◌≤◌, IfOk, length};
 ghost use Rattle.justfile_token.specs.Messages.{message_text};
 ghost use Rattle.justfile_recovery.specs.Places.{LiesIn};
+ghost use Rattle.justfile_survey.specs.Errors.{IsPlaceOf};
 ghost use Rattle.justfile_survey.specs.Surveys.{Says};
 
 use crate::kind_lines::move_lines;
@@ -86,9 +87,11 @@ pub fn message_in_text(
 /// Returns where an error of a text is shown: at its token, or before the last line feed if that is the
 /// end.
 pub fn place_of_error(text: &str, error: &CompileError<'_>) -> Span
-    ensures { LiesIn (length text.now) result }
+    ensures within { LiesIn (length text.now) result }
+    ensures place { let token = error.now.token in token.offset + token.length ≤ length text.now
+        → IsPlaceOf text.now token result }
 {
-    span_in_text(text.as_bytes(), 0, &error.token)
+    place_at(text.as_bytes(), error.token.offset, &error.token)
 }
 
 /// Returns the number of line feeds from one offset up to another one.
@@ -104,9 +107,17 @@ fn line_feeds_between(bytes: &[u8], from: usize, to: usize) -> usize {
 fn span_in_text(bytes: &[u8], base: usize, token: &Token<'_>) -> Span
     ensures { LiesIn (length bytes.now) result }
 {
-    let start = base.saturating_add(token.offset).min(bytes.len());
-    let ends = token.kind == TokenKind::Eof;
-    if ends && start > 0 && bytes[start - 1] == b'\n' {
+    place_at(bytes, base.saturating_add(token.offset), token)
+}
+
+/// Returns where a token at an offset of a text is shown: the end before the last line feed.
+fn place_at(bytes: &[u8], offset: usize, token: &Token<'_>) -> Span
+    ensures within { LiesIn (length bytes.now) result }
+    ensures place { offset ≡ token.now.offset → offset + token.now.length ≤ length bytes.now
+        → IsPlaceOf bytes.now token.now result }
+{
+    let start = offset.min(bytes.len());
+    if token.kind == TokenKind::Eof && start > 0 && bytes[start - 1] == b'\n' {
         return span_in(bytes.len(), start - 1, start - 1);
     }
     span_in(bytes.len(), start, start.saturating_add(token.length))

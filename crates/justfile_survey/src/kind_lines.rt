@@ -1,9 +1,13 @@
 //! The lines that errors name.
+ghost use Rattle.std.specs.Prelude.{◌≡◌};
+ghost use Rattle.justfile_survey.specs.Errors.{names_lines};
 
 use justfile_token::CompileErrorKind;
 
 /// Whether an error names lines.
-pub fn names_lines(kind: &CompileErrorKind<'_>) -> bool {
+pub fn names_lines(kind: &CompileErrorKind<'_>) -> bool
+    ensures { result ≡ names_lines kind.now }
+{
     matches!(
         kind,
         CompileErrorKind::DuplicateArgAttribute { .. }

@@ -6,7 +6,6 @@ use Rattle.justfile_canonical.specs.declared.fault.FormatFault.TheVariants as fa
 use Rattle.justfile_files.specs.declared.formatter.Refusal.{Refusal}
 use Rattle.justfile_files.specs.declared.formatter.Refusal.TheVariants.{Exhausted, Rejected}
 use Rattle.justfile_files.specs.Visible.{visible_lines}
-use Rattle.justfiles.specs.Linted.{TellText}
 
 -- The lines tell of a carriage return at the end of a body line.
 pub record TellsReturn (lines : List ℕ) : Type 0 where
@@ -23,12 +22,6 @@ pub record TellsRejection (name source lines : List ℕ) : Type 0 where
 pub data IsRejected (name source lines : List ℕ) : Type 0 where
   rejected : TellsRejection name source lines → IsRejected name source lines
   unprintable : IsUnprintable source → TellsReturn lines → IsRejected name source lines
-
--- The text is a justfile, and the lines tell all that is wrong with its names, as they are shown.
-pub record FindsShown (name source lines : List ℕ) : Type 0 where
-  pub told : List ℕ
-  pub finds : TellText name source told
-  pub is : lines ≡ visible_lines told
 
 -- The refusal shows the lines, or memory ran out.
 abbrev pub IsShownRefusal : (lines : List ℕ) → Refusal → Type 0

@@ -1,25 +1,55 @@
--- What is told of a text in which names are wrong.
-use Rattle.std.specs.Prelude.{ℕ, Bool, List, IsPermutation}
-use Rattle.std.specs.List.Sorted.{IsNonDecreasingBy}
+-- What is told of files in which names are wrong.
+use Rattle.std.specs.Prelude.{◌≡◌, ◌⊎◌, ℕ, Bool, false, Any, List, [], ◌∷◌, String}
+use Rattle.std.specs.Global.{Global}
+use Rattle.std.specs.List.{AllZip, flat_map}
 use Rattle.justfile_ast.specs.declared.ast.Ast.{Ast}
 use Rattle.justfile_canonical.specs.Formatting.{IsFileOf}
-use Rattle.justfile_problems.specs.declared.circular.Circle.{Circle}
-use Rattle.justfile_problems.specs.declared.problem.Problem.{Problem}
-use Rattle.justfile_problem_lines.specs.Lines.{TellAll}
-use Rattle.justfile_lint.specs.Lint.{AreCirclesIn, problems_of}
+use Rattle.justfile_files.specs.Request.{texts}
+use Rattle.justfile_files.specs.Sources.{Source}
+use Rattle.justfile_files.specs.Visible.{visible_lines}
+use Rattle.justfile_problems.specs.declared.facts.Import.{Import}
+use Rattle.justfile_problems.specs.declared.facts.ModuleFile.{ModuleFile}
+use Rattle.justfile_problem_lines.specs.Links.{paths_at}
+use Rattle.justfile_problem_lines.specs.Modules.{TellModule}
+use Rattle.justfile_lint.specs.Modules.{AreImportsOf, IsModuleFile}
 use Rattle.justfile_lint.specs.Names.{may_be_imported}
+use Rattle.justfiles.specs.Justfile.{IsRejected}
 
--- the lines tell all that is wrong with the file of a text, in its order, and then its circles
-pub record TellFile (source : List ℕ) (imported : Bool) (ast : Ast) (lines : List ℕ) : Type 0 where
-  pub problems : List Problem
-  pub all : IsPermutation (problems_of imported ast) problems
-  pub in_order : IsNonDecreasingBy (λ (p : Problem). p.token.offset) problems
-  pub circles : List Circle
-  pub are : AreCirclesIn ast circles
-  pub told : TellAll source problems circles lines
+-- the paths to which the imports lead of the file at another path
+pub record NamesPaths (path : List ℕ) (ast : Ast) (paths : List (List ℕ)) : Type 0 where
+  pub imports : List Import
+  pub are : AreImportsOf ast imports
+  pub lead : paths ≡ flat_map (paths_at path) imports
 
--- the text is a justfile, and the lines tell all that is wrong with it
-pub record TellText (path source lines : List ℕ) : Type 0 where
+-- the text is a justfile that imports the files at these paths, or there are none
+abbrev pub LeadTo : (path source : List ℕ) → (paths : List (List ℕ)) → Type 0
+LeadTo path source paths = ((ast : Ast) × IsFileOf source ast × NamesPaths path ast paths) ⊎ (paths ≡ [])
+
+-- the text of the file is a justfile, which says this
+pub record IsPart (s : Source) (f : ModuleFile) : Type 0 where
   pub ast : Ast
-  pub parsed : IsFileOf source ast
-  pub told : TellFile source (may_be_imported path) ast lines
+  pub parsed : IsFileOf s.text ast
+  pub says : IsModuleFile ast s.name s.path s.text f
+
+-- whether another file may import the first one
+abbrev pub may_first_be_imported : List Source → Bool
+may_first_be_imported [] = false
+may_first_be_imported (s ∷ others) = may_be_imported s.name
+
+-- The texts are justfiles, and the lines tell all that is wrong with the first file and those that it imports.
+pub record TellFiles (files : List Source) (missing : List (String Global)) (lines : List ℕ) : Type 0 where
+  pub parts : List ModuleFile
+  pub each : AllZip IsPart files parts
+  pub told : TellModule (may_first_be_imported files) parts missing lines
+
+-- one of the texts isn't a justfile, and the lines tell that
+abbrev pub AreRejected : List Source → (lines : List ℕ) → Type 0
+AreRejected files lines = Any (λ (s : Source). IsRejected s.name s.text lines) files
+
+-- the lines tell all that is wrong, as they are shown
+pub record FindsShown (files : List Source) (missing : List (List ℕ)) (lines : List ℕ) : Type 0 where
+  pub paths : List (String Global)
+  pub are : missing ≡ texts paths
+  pub told : List ℕ
+  pub finds : TellFiles files paths told
+  pub is : lines ≡ visible_lines told

@@ -2,18 +2,19 @@
 ghost use Rattle.std.specs.Prelude.{◌≡◌, IfErr, IfOk, string_bytes};
 ghost use Rattle.justfile_files.specs.Formatter.{IsExhausted};
 ghost use Rattle.justfile_files.specs.Visible.{visible_lines};
-ghost use Rattle.justfile_canonical.specs.declared.fault.FormatFault.TheVariants as faults;
 ghost use Rattle.justfile_canonical.specs.Formatting.{IsFormatted};
 ghost use Rattle.justfile_canonical.proofs.Formatted as formatted;
-ghost use Rattle.justfiles.specs.Justfile.{FindsShown, IsRefusalOf, IsRejected, IsShownRefusal, TellsReturn};
+ghost use Rattle.justfiles.specs.Justfile.{IsRejected};
 ghost use Rattle.justfiles.specs.Laws.{never_both};
+ghost use Rattle.justfiles.specs.Linted.{AreRejected, FindsShown, LeadTo};
 
-use crate::linted::lint_text;
-use crate::returned::returned_excerpt;
+use crate::linted::{lines_of, paths_in};
+use crate::refusal::refusal;
 use justfile_files::formatter::{Formatter, Refusal};
 use justfile_files::linter::Linter;
+use justfile_files::sources::SourceFile;
 use justfile_files::visible::visible_lines;
-use justfile_syntax::format::{FormatFault, format_text};
+use justfile_syntax::format::format_text;
 use std::alloc::{AllocError, Global};
 
 /// Formats justfiles, and finds what is wrong with them.
@@ -40,15 +41,26 @@ impl Formatter for Justfile {
 }
 
 impl Linter for Justfile {
+    ghost leads = { LeadTo };
+
     ghost finds = { FindsShown };
 
-    ghost rejects = { IsRejected };
+    ghost rejects = { AreRejected };
 
-    #[tactic(auto, using(crate::proofs::Refusals::refused, crate::proofs::Told::shown_found, crate::proofs::Told::unshown))]
-    fn lint(&self, alloc: Global, name: &str, source: &str) -> Result<String, Refusal> {
-        match lint_text(alloc, name, source) {
+    fn paths(&self, alloc: Global, path: &str, source: &str) -> Result<Vec<String>, AllocError> {
+        paths_in(alloc, path, source)
+    }
+
+    #[tactic(auto, using(crate::proofs::Told::shown_found, crate::proofs::Told::unshown))]
+    fn lint(
+        &self,
+        alloc: Global,
+        files: &[SourceFile],
+        missing: &[String],
+    ) -> Result<String, Refusal> {
+        match lines_of(alloc, files, missing) {
             Ok(lines) => shown_lines(alloc, lines.as_str()),
-            Err(fault) => Err(refusal(alloc, name, source, fault)),
+            Err(refusal) => Err(refusal),
         }
     }
 }
@@ -62,47 +74,4 @@ fn shown_lines(alloc: Global, lines: &str) -> Result<String, Refusal>
         Ok(shown) => Ok(shown),
         Err(_) => Err(Refusal::Exhausted("out of memory")),
     }
-}
-
-/// Returns the refusal for a fault of formatting the text of the file with this name.
-fn refusal(alloc: Global, name: &str, source: &str, fault: FormatFault) -> Refusal
-    ensures { IsRefusalOf fault result }
-{
-    match fault {
-        FormatFault::Rejected(told) => rejection(alloc, told.lines.as_str()),
-        FormatFault::NotPrintable => unprintable(alloc, name, source),
-        FormatFault::Memory => Refusal::Exhausted("out of memory"),
-        FormatFault::Numbers => Refusal::Exhausted("out of numbers"),
-    }
-}
-
-/// Makes the refusal of a text that is no justfile, which these lines tell.
-fn rejection(alloc: Global, lines: &str) -> Refusal
-    ensures { IsShownRefusal lines.now result }
-{
-    match visible_lines(alloc, lines) {
-        Ok(lines) => Refusal::Rejected(lines),
-        Err(_) => Refusal::Exhausted("out of memory"),
-    }
-}
-
-/// Makes the refusal of a text that would lose a carriage return at the end of a body line.
-fn unprintable(alloc: Global, name: &str, source: &str) -> Refusal
-    ensures { IsRefusalOf faults.NotPrintable result }
-{
-    match unprintable_lines(alloc, name, source) {
-        Ok(lines) => Refusal::Rejected(lines),
-        Err(_) => Refusal::Exhausted("out of memory"),
-    }
-}
-
-/// Returns the lines that tell that a body line ends in a carriage return, with the excerpt of the
-/// first such line.
-fn unprintable_lines(alloc: Global, name: &str, source: &str) -> Result<String, AllocError>
-    ensures { IfOk result (λ lines. TellsReturn (string_bytes lines)) }
-{
-    let excerpt = returned_excerpt(alloc, name, source)?;
-    let mut lines = "error: a body line ends in a carriage return\n".to_string(alloc)?;
-    lines.push_str(visible_lines(alloc, excerpt.as_str())?.as_str())?;
-    Ok(lines)
 }

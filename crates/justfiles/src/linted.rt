@@ -1,39 +1,146 @@
-//! The lines that tell what is wrong with a text.
-ghost use Rattle.std.specs.Prelude.{IfErr, IfOk, string_bytes};
-ghost use Rattle.justfile_canonical.specs.Fault.{IsFormatFaultOf};
-ghost use Rattle.justfiles.specs.Linted.{TellFile, TellText};
+//! The lines that tell what is wrong with files.
+ghost use Rattle.std.specs.Prelude.{◌≡◌, ◌++◌, ◌∷◌, [], IfErr, IfOk, OnOk, map, string_bytes};
+ghost use Rattle.std.specs.List.{AllZip};
+ghost use Rattle.justfile_files.specs.Formatter.{IfRejected, IsExhausted};
+ghost use Rattle.justfile_files.specs.Sources.{source_of, sources};
+ghost use Rattle.justfile_lint.specs.Modules.{IsModuleFile};
+ghost use Rattle.justfiles.specs.Justfile.{IsRejected};
+ghost use Rattle.justfiles.specs.Linted.{AreRejected, IsPart, LeadTo, NamesPaths, TellFiles, may_first_be_imported};
 
+use crate::refusal::refusal;
 use justfile_ast::Ast;
 use justfile_canonical::fault::FormatFault;
 use justfile_canonical::formatting::parse;
-use justfile_lint::{lint_with_circles, may_be_imported};
-use justfile_problem_lines::all_lines;
+use justfile_files::formatter::Refusal;
+use justfile_files::sources::SourceFile;
+use justfile_lint::{file_imports, may_be_imported, module_file};
+use justfile_problem_lines::{import_paths, module_lines};
+use justfile_problems::ModuleFile;
 use std::alloc::{AllocError, Global};
 
-/// Returns the lines that tell what is wrong with the names of the text of a file at this path, in
-/// the order of the text, and then its circles. There are none if nothing is wrong.
+/// Returns the paths of the files that a text imports, which is that of the file at a path. There are
+/// none if it is no justfile.
 ///
 /// # Errors
 ///
-/// The text isn't a justfile, or memory or numbers run out.
-pub fn lint_text(alloc: Global, path: &str, source: &str) -> Result<String, FormatFault>
-    ensures ok { IfOk result (λ lines. TellText path.now source.now (string_bytes lines)) }
-    ensures err { IfErr result (IsFormatFaultOf path.now source.now) }
+/// Memory ran out.
+pub(crate) fn paths_in(alloc: Global, path: &str, source: &str) -> Result<Vec<String>, AllocError>
+    ensures { IfOk result (λ paths. LeadTo path.now source.now (map string_bytes paths.items)) }
 {
-    let mut ast = parse(alloc, path, source)?;
-    Ok(file_lines(&mut ast, source, may_be_imported(path), alloc)?)
+    // without the word there is no import, and nothing to parse
+    if !source.contains("import") {
+        return Ok(Vec::new(alloc));
+    }
+    match parse(alloc, path, source) {
+        Ok(ast) => {
+            let mut ast = ast;
+            paths_of(alloc, path, &mut ast)
+        }
+        Err(FormatFault::Memory) => Err(AllocError),
+        Err(_) => Ok(Vec::new(alloc)),
+    }
 }
 
-/// Returns the lines that tell what is wrong with the file of a text.
-fn file_lines(
-    ast: &mut Ast<'_>,
-    source: &str,
-    imported: bool,
-    alloc: Global,
-) -> Result<String, AllocError>
-    ensures { IfOk result
-        (λ lines. TellFile source.now imported ast.old (string_bytes lines)) }
+/// Returns the paths of the files that a file imports, which is at a path.
+fn paths_of(alloc: Global, path: &str, ast: &mut Ast<'_>) -> Result<Vec<String>, AllocError>
+    ensures { IfOk result (λ paths. NamesPaths path.now ast.old (map string_bytes paths.items)) }
 {
-    let found = lint_with_circles(ast, imported, alloc)?;
-    all_lines(alloc, source, &found.problems, &found.circles)
+    let imports = file_imports(ast, alloc)?;
+    import_paths(alloc, path, &imports)
+}
+
+/// Returns the lines that tell what is wrong with the first of the files and those that it imports. At
+/// the paths `missing` there is no file.
+///
+/// # Errors
+///
+/// One of the texts isn't a justfile, or memory or numbers run out.
+pub(crate) fn lines_of(
+    alloc: Global,
+    files: &[SourceFile],
+    missing: &[String],
+) -> Result<String, Refusal>
+    ensures ok { IfOk result
+        (λ lines. TellFiles (sources files.now) missing.now (string_bytes lines)) }
+    ensures err { IfErr result (IfRejected (AreRejected (sources files.now))) }
+{
+    let parts = parts_of(alloc, files)?;
+    match module_lines(alloc, may_first_be_imported(files), &parts, missing) {
+        Ok(lines) => Ok(lines),
+        Err(_) => Err(Refusal::Exhausted("out of memory")),
+    }
+}
+
+/// Whether another file may import the first one.
+fn may_first_be_imported(files: &[SourceFile]) -> bool
+    ensures { result ≡ may_first_be_imported (sources files.now) }
+{
+    match files {
+        [] => false,
+        [file, ..] => may_be_imported(file.name.as_str()),
+    }
+}
+
+/// Returns what the files say.
+#[tactic(auto, using(crate::proofs::Told::one_part, crate::proofs::Told::rejected_at))]
+fn parts_of<'src>(
+    alloc: Global,
+    files: &'src [SourceFile],
+) -> Result<Vec<ModuleFile<'src>>, Refusal>
+    ensures ok { IfOk result (λ parts. AllZip IsPart (sources files.now) parts.items) }
+    ensures err { IfErr result (IfRejected (AreRejected (sources files.now))) }
+{
+    let mut parts = Vec::new(alloc);
+    for file in files {
+        match part_of(alloc, file) {
+            Ok(part) => push_part(part, &mut parts)?,
+            Err(refusal) => return Err(refusal),
+        }
+    }
+    Ok(parts)
+}
+
+/// Appends what a file says.
+fn push_part<'src>(
+    part: ModuleFile<'src>,
+    parts: &mut Vec<ModuleFile<'src>>,
+) -> Result<(), AllocError>
+    ensures { OnOk result (parts.new.items ≡ parts.old.items ++ part.entry ∷ []) }
+{
+    parts.push(part)?;
+    Ok(())
+}
+
+/// Returns what a file says.
+#[tactic(auto, using(crate::proofs::Refusals::refused))]
+fn part_of<'src>(alloc: Global, file: &'src SourceFile) -> Result<ModuleFile<'src>, Refusal>
+    ensures ok { IfOk result (IsPart (source_of file.now)) }
+    ensures err { IfErr result
+        (IfRejected (IsRejected (string_bytes file.now.name) (string_bytes file.now.text))) }
+{
+    let (name, source) = (file.name.as_str(), file.text.as_str());
+    match parse(alloc, name, source) {
+        Ok(ast) => {
+            let mut ast = ast;
+            part_in(alloc, name, file.path.as_str(), source, &mut ast)
+        }
+        Err(fault) => Err(refusal(alloc, name, source, fault)),
+    }
+}
+
+/// Returns what the file of a text says.
+fn part_in<'src>(
+    alloc: Global,
+    name: &'src str,
+    path: &'src str,
+    source: &'src str,
+    ast: &mut Ast<'src>,
+) -> Result<ModuleFile<'src>, Refusal>
+    ensures ok { IfOk result (IsModuleFile ast.old name.now path.now source.now) }
+    ensures err { IfErr result IsExhausted }
+{
+    match module_file(ast, name, path, source, alloc) {
+        Ok(part) => Ok(part),
+        Err(_) => Err(Refusal::Exhausted("out of memory")),
+    }
 }

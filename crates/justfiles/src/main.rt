@@ -5,6 +5,7 @@
 mod commit;
 mod justfile;
 mod linted;
+mod refusal;
 mod returned;
 
 use commit::COMMIT;

@@ -102,6 +102,23 @@ impl Folder for FileSystem<'_> {
         Ok(bytes)
     }
 
+    /// Returns the bytes of a file, if it is a regular one: what another one names may be a device or
+    /// a pipe, which has no end.
+    fn read_named(&mut self, alloc: Global, name: &str) -> io::Result<Vec<u8>> {
+        let seen = match fs::metadata(self.rt, name) {
+            Ok(seen) => seen,
+            Err(error) => return Err(told_better(error, name)),
+        };
+        if seen.is_file() {
+            return self.read(alloc, name);
+        }
+        Err(Error::from(if seen.is_dir() {
+            ErrorKind::IsADirectory
+        } else {
+            ErrorKind::Unsupported
+        }))
+    }
+
     /// Replaces the file that a path leads to: a link stays, and its target is replaced. If writing
     /// it in place and putting it back fail, the error names the copy of its text.
     fn replace(

@@ -3,7 +3,7 @@ ghost use Rattle.std.specs.Prelude.{None};
 
 use justfile_files::folder::{Folder, ReplaceError};
 use std::alloc::{AllocError, Global};
-use std::io::{self, Read, Write};
+use std::io::{self, Error, ErrorKind, Read, Write};
 
 /// Standard input and standard output as a folder, each of whose files is read from the one and
 /// written to the other.
@@ -56,6 +56,11 @@ impl Folder for Stream<'_> {
         self.rt.stdin().read_to_end(&mut bytes)?;
         self.bytes.extend_from_slice(&bytes)?;
         Ok(bytes)
+    }
+
+    /// No file among the streams is read since another one names it.
+    fn read_named(&mut self, _alloc: Global, _name: &str) -> io::Result<Vec<u8>> {
+        Err(Error::from(ErrorKind::Unsupported))
     }
 
     fn replace(

@@ -1,3 +1,3 @@
+pub mod Cut
 pub mod Edits
-pub mod Joined
 pub mod Steps

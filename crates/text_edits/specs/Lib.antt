@@ -1,3 +1,4 @@
 pub mod Edited
 pub mod Lines
+pub mod Pieces
 pub mod Replaced

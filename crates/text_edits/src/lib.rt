@@ -2,13 +2,13 @@
 //! and the edits of lines that lead from a text to another.
 #![tactic(auto)]
 
-mod applied;
 mod edit;
 mod lines;
 mod pending;
+mod pieces;
 mod several;
 
-pub use applied::replaced;
 pub use edit::{Range, TextEdit};
 pub use lines::line_edits;
+pub use pieces::Pieces;
 pub use several::edited;

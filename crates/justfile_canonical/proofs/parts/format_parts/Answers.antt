@@ -5,7 +5,7 @@ use Rattle.justfile_canonical.proofs.InParts.{InParts, at_first, finished_if, mo
 use Rattle.justfile_canonical.proofs.parts.format_parts.Goals as goal
 
 pub parts-init : goal.parts-init
-parts-init c = at_first c.args.source.now _ (record { text = c.new.ensures.bytes; separator = refl; can_be_printed = refl; indented = tt })
+parts-init c = at_first c.args.source.now _ (record { text = c.in-Ok.ensures.bytes; separator = refl; can_be_printed = refl; indented = tt })
 
 pub parts-preserved : goal.parts-preserved
 parts-preserved c =

@@ -1,4 +1,4 @@
-use Rattle.std.proofs.Common.{List, ◌∷◌, ℕ, Option, IfNone, IfSome, sym, subst, string_bytes, arith}
+use Rattle.std.proofs.Common.{List, ◌∷◌, ℕ, Option, IfNone, IfSome, sym, subst, string_bytes}
 use Rattle.std.specs.Str.{IsCharBoundary}
 use Rattle.std.proofs.lemmas.Str.{IsCharBoundary-start}
 use Rattle.justfile_lines.specs.declared.position.Place.{Place}

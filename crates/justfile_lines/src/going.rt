@@ -1,0 +1,113 @@
+//! Going along a text, from a place on.
+ghost use Rattle.std.specs.Prelude.{◌≡◌, ◌+◌, ◌<◌, ◌≤◌, ℕ, false, length, take};
+ghost use Rattle.justfile_lines.specs.Going.{IsInText, IsUpTo, after_byte, after_size, first_place, is_past, longest, place_after, size_between};
+
+use crate::encoding::Encoding;
+use crate::position::{Place, Position};
+
+impl Place {
+    /// Whether the place is in a later line than a position, or at a greater column of its line.
+    pub fn is_past(self, position: Position) -> bool
+        ensures { result ≡ is_past position self }
+    {
+        position.line < self.position.line
+            || (position.line == self.position.line && position.column < self.position.column)
+    }
+
+    /// Returns the place after a byte.
+    fn after_byte(self, encoding: Encoding, byte: u8) -> Place
+        requires short { self.offset < longest }
+        requires place { IsInText self }
+        ensures { result ≡ after_byte encoding self byte }
+    {
+        let offset = self.offset + 1;
+        let position = if byte == b'\n' {
+            Position {
+                line: self.position.line + 1,
+                column: 0,
+            }
+        } else {
+            Position {
+                line: self.position.line,
+                column: self.position.column + encoding.byte_units(byte),
+            }
+        };
+        Place { offset, position }
+    }
+
+    /// Returns the size of a text: the place after it, if it begins where texts do.
+    pub fn size_of(encoding: Encoding, text: &str) -> Place
+        requires { length text.now ≤ longest }
+        ensures { result ≡ place_after encoding first_place text.now }
+    {
+        let mut here = Place::start();
+        for byte in text.as_bytes() {
+            here = here.after_byte(encoding, *byte);
+        }
+        here
+    }
+
+    /// Returns the place after a text with a size that begins at this one.
+    pub fn after_size(self, size: Place) -> Place
+        requires short { self.offset + size.offset ≤ longest }
+        requires place { IsInText self }
+        requires size { IsInText size }
+        ensures { result ≡ after_size self size }
+    {
+        let column = if size.position.line == 0 {
+            self.position.column + size.position.column
+        } else {
+            size.position.column
+        };
+        let line = self.position.line + size.position.line;
+        Place {
+            offset: self.offset + size.offset,
+            position: Position { line, column },
+        }
+    }
+
+    /// Returns the size of the text that leads from a place to this one.
+    pub fn size_from(self, start: Place) -> Place
+        ensures { result ≡ size_between start self }
+    {
+        let column = if self.position.line == start.position.line {
+            self.position.column.saturating_sub(start.position.column)
+        } else {
+            self.position.column
+        };
+        let line = self.position.line.saturating_sub(start.position.line);
+        Place {
+            offset: self.offset.saturating_sub(start.offset),
+            position: Position { line, column },
+        }
+    }
+
+    /// Returns the last place that isn't past a position, in a text that begins at this place, which isn't
+    /// past it.
+    pub fn up_to(self, encoding: Encoding, text: &str, position: Position) -> Place
+        requires short { self.offset + length text.now ≤ longest }
+        requires place { IsInText self }
+        requires up_to { is_past position self ≡ false }
+        ensures { (count : ℕ) × IsUpTo encoding self text.now position count
+            × (result ≡ place_after encoding self (take count text.now))
+            × (result.offset ≡ self.offset + count) }
+    {
+        let bytes = text.as_bytes();
+        let mut count = 0;
+        let mut last = self;
+        let mut at = 0;
+        let mut here = self;
+        'bytes: while at < bytes.len() {
+            here = here.after_byte(encoding, bytes[at]);
+            if here.is_past(position) {
+                return last;
+            }
+            at += 1;
+            if text.is_char_boundary(at) {
+                count = at;
+                last = here;
+            }
+        }
+        last
+    }
+}

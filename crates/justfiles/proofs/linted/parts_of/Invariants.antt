@@ -1,0 +1,8 @@
+use Rattle.std.proofs.Common.{take}
+use Rattle.std.specs.List.{AllZip}
+use Rattle.justfile_files.specs.Sources.{sources}
+use Rattle.justfiles.specs.Linted.{IsPart}
+use Rattle.justfiles.proofs.linted.parts_of.Given as goal
+
+abbrev pub invariant-loop-file : goal.invariant-loop-file
+invariant-loop-file l = AllZip IsPart (sources (take l.file-index l.files)) l.parts.items

@@ -1,0 +1,15 @@
+use Rattle.std.proofs.Common.{◌≡◌, false, length}
+use Rattle.justfile_lines.specs.Going.{first_place, is_past}
+use Rattle.text_edits.specs.Pieces.{AreSized, Leads, text_of}
+use Rattle.text_edits.proofs.pieces.go_on.Given as goal
+
+abbrev pub invariant-pieces : goal.invariant-pieces
+invariant-pieces l = record {
+  same : text_of l.before.items l.after.items ≡ text_of l.fn.before.items l.fn.after.items;
+  sized : AreSized l.fn.encoding l.after.items;
+  leads : Leads l.fn.encoding first_place l.before.items l.here;
+  up_to : is_past l.fn.position l.here ≡ false;
+}
+
+abbrev pub decreases-pieces : goal.decreases-pieces
+decreases-pieces l = length l.after.items
