@@ -2,11 +2,11 @@
 #![tactic(auto)]
 
 mod codes;
-mod fixes;
+mod fixing;
 mod known;
 mod listing;
 mod near;
 mod told;
 
-pub use crate::fixes::fixes;
+pub use crate::fixing::fixes;
 pub use crate::listing::findings;
