@@ -41,7 +41,7 @@ one_more ds us ps i p fs new o inside at e h k =
     (pushed (filter_map (fix_of ds us) (take i ps)) fs (fix_of ds us p) o h k))
 
 -- the first problems
-pub of_first : {E : Type 0} (ds : List Definition) (us : List Use) (ps first : List Problem) (found : List QuickFix) → first ≡ take (min most_suggested (length ps)) ps
+pub of_first : (ds : List Definition) (us : List Use) (ps first : List Problem) (found : List QuickFix) → first ≡ take (min most_suggested (length ps)) ps
     → AllZip Does (filter_map (fix_of ds us) first) found → AreFixes ds us ps found
 of_first ds us ps first found e h = subst (λ qs. AllZip Does (filter_map (fix_of ds us) qs) found) (e ∙ take_min most_suggested ps) h
 
