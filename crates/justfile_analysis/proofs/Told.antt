@@ -51,11 +51,11 @@ module _ (parts : List (Part Known)) (start i next : ℕ) (p : Part Known) (with
   right_next old new none same t =
       subst (λ told. AreToldUpTo parts next (drop (i + 1) parts) told) (sym same)
       (subst (λ n. AreToldUpTo parts n (drop (i + 1) parts) old) (sym next_is)
-          (right_part parts start p (drop (i + 1) parts) old none (subst (λ rest. AreToldUpTo parts start rest old) rest_is t)))
+      (right_part parts start p (drop (i + 1) parts) old none (subst (λ rest. AreToldUpTo parts start rest old) rest_is t)))
 
   pub wrong_next : (old new : List Problem) (q : PartProblem) (problem : Problem) → p.known.problem ≡ Some q → new ≡ old ++ problem ∷ [] → IsToldAt (start - 1) q problem
       → AreToldUpTo parts start (drop i parts) old → AreToldUpTo parts next (drop (i + 1) parts) new
   wrong_next old new q problem some same told t =
       subst (λ told. AreToldUpTo parts next (drop (i + 1) parts) told) (sym same)
       (subst (λ n. AreToldUpTo parts n (drop (i + 1) parts) (old ++ problem ∷ [])) (sym next_is)
-          (wrong_part parts start p (drop (i + 1) parts) old q problem some told (subst (λ rest. AreToldUpTo parts start rest old) rest_is t)))
+      (wrong_part parts start p (drop (i + 1) parts) old q problem some told (subst (λ rest. AreToldUpTo parts start rest old) rest_is t)))

@@ -79,7 +79,7 @@ may_end text start reach end e read = by e.stop
         inl (at_end text start reach within (omega (arith, last, read)), omega (arith, ap length all, length-drop (start - 1) text, last))
     by (inr begin) =
         inr (subst (λ read. is_start read (end - (start - 1)) ≡ true) (sym (seen_is text start reach))
-            (start_in text (start - 1) (start + reach) end (omega (arith, e.forward)) read begin))
+        (start_in text (start - 1) (start + reach) end (omega (arith, e.forward)) read begin))
 
 -- ---- a part
 

@@ -72,11 +72,7 @@ pub(crate) fn rejection_of(
 }
 
 /// Returns why a text is rejected that has no file for a fault.
-#[tactic(auto, using(
-    crate::proofs::Why::token_within,
-    crate::proofs::Why::told_by,
-    crate::proofs::Why::out_of_numbers
-))]
+#[tactic(auto, using(crate::proofs::Why::token_within, crate::proofs::Why::told_by, crate::proofs::Why::out_of_numbers))]
 pub(crate) fn rejection_for(
     alloc: Global,
     text: &str,

@@ -90,11 +90,7 @@ fn findings_beside(
 
 /// Returns what is wrong with what a text says, if it is a justfile. `imported` is whether another file
 /// may import it.
-fn findings_in(
-    alloc: Global,
-    imported: bool,
-    text: &str,
-) -> Result<Vec<Finding>, AllocError>
+fn findings_in(alloc: Global, imported: bool, text: &str) -> Result<Vec<Finding>, AllocError>
     ensures { IfOk result (λ found. AreInText imported text.now found.items) }
 {
     match query_root(alloc, "justfile", text, &FindingQuery { imported }) {
