@@ -1,7 +1,6 @@
 //! What is wrong with the names of texts, as rows show it.
 
-use justfile_lint::lint_with_circles;
-use justfile_problems::{Circle, Problem};
+use justfile_lint::{Findings, lint_with_circles};
 use justfile_syntax::ast::Ast;
 use justfile_syntax::parser::{Query, query_root};
 use justfile_token::CompileError;
@@ -25,24 +24,19 @@ impl Query for Problems {
     fn answer(ast: &mut Ast<'_>, alloc: Global, query: &Self) -> Result<Answer, AllocError> {
         let mut answer = Answer::new(alloc);
         match lint_with_circles(ast, query.imported, alloc) {
-            Ok(found) => {
-                push_problems(&found.problems, &mut answer);
-                push_circles(&found.circles, &mut answer);
-            }
+            Ok(found) => push_found(&found, &mut answer),
             Err(_) => answer.fail(),
         }
         Ok(answer)
     }
 }
 
-fn push_problems(problems: &[Problem<'_>], answer: &mut Answer) {
-    for problem in problems {
+/// Writes each problem, and then each circle.
+fn push_found(found: &Findings<'_>, answer: &mut Answer) {
+    for problem in &found.problems {
         push_error(problem.error(answer.alloc()), answer);
     }
-}
-
-fn push_circles(circles: &[Circle<'_>], answer: &mut Answer) {
-    for circle in circles {
+    for circle in &found.circles {
         push_error(circle.error(answer.alloc()), answer);
     }
 }

@@ -139,18 +139,19 @@ fn push_with_keys<'src>(
     count: usize,
 ) {
     match arguments(answer.alloc(), name, count) {
-        Ok(arguments) => {
-            let made = Attribute::new(answer.alloc(), name, kind, arguments, keys);
-            push_result(answer, name.src, &made);
-        }
+        Ok(arguments) => push_result(
+            answer,
+            name.src,
+            Attribute::new(answer.alloc(), name, kind, arguments, keys),
+        ),
         Err(_) => answer.fail(),
     }
 }
 
 /// Writes an attribute, or why there is none.
-fn push_result<'src>(answer: &mut Answer, text: &str, made: &CompileResult<'src, Attribute<'src>>) {
+fn push_result(answer: &mut Answer, text: &str, made: CompileResult<'_, Attribute<'_>>) {
     match made {
-        Ok(attribute) => answer.push_display(attribute),
-        Err(fault) => push_fault(answer, text, fault),
+        Ok(attribute) => answer.push_display(&attribute),
+        Err(fault) => push_fault(answer, text, &fault),
     }
 }
