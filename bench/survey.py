@@ -1,7 +1,7 @@
 #!/usr/bin/env python3
 """Surveys texts that are broken: survey.py PROGRAM RECIPES [COUNT]
 
-PROGRAM is crates/justfile_rows, built, which surveys the texts of rows with the word `surveys`, and RECIPES
+PROGRAM is crates/caller_rows, built, which surveys the texts of rows with the word `surveys`, and RECIPES
 crates/recipes, which tells whether a text is a justfile.
 Breaks COUNT texts (2,000 unless given) of the rows of
 crates/justfile_rows that are justfiles with at least two named items: by a byte that is taken out or

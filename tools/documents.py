@@ -164,7 +164,7 @@ def crate_before(line, section):
 def known(crate):
     """The words that a name with this crate may have. Those of justfiles and the names of laws stand in any section."""
     if crate == "tests":
-        return set(NAMES).union(tests(), *map(words, ("text_rows", "justfile_rows", "justfile_syntax")))
+        return set(NAMES).union(tests(), *map(words, ("text_rows", "justfile_rows", "caller_rows", "justfile_syntax")))
     if crate.endswith("/specs"):
         return words(crate) | set(NAMES)
     elsewhere = ELSEWHERE[None] | ELSEWHERE.get(crate, set())

@@ -27,10 +27,7 @@ impl Outcome {
 pub(crate) struct Counts {
     refused: u64,
     wrong: u64,
-    /// The outcome of the last call.
-    pub(crate) last: Outcome,
-    /// The outcome of the same call after it.
-    pub(crate) again: Outcome,
+    last: Outcome,
 }
 
 impl Counts {
@@ -40,7 +37,6 @@ impl Counts {
             refused: 0,
             wrong: 0,
             last: Outcome::Refused,
-            again: Outcome::Wrong,
         }
     }
 
@@ -53,7 +49,6 @@ impl Counts {
             self.wrong = self.wrong.saturating_add(1);
         }
         self.last = outcome;
-        self.again = again;
     }
 
     /// Returns what to print about the calls. The last of them should have had enough memory.

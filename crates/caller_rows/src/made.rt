@@ -61,73 +61,90 @@ fn insert_variable<'src>(
     )
 }
 
-/// Inserts a key without a value by each name.
-fn put_names<'src>(keys: &mut Keys<'src>, names: &[Name<'src>]) -> Result<(), AllocError> {
+/// Makes keys without values, by their texts.
+fn keys<'src>(alloc: Global, names: &[Name<'src>]) -> Result<Keys<'src>, AllocError> {
+    let mut keys = BTreeMap::new(alloc);
     for name in names {
-        insert(keys, name.lexeme(), (*name, None))?;
+        insert(&mut keys, name.lexeme(), (*name, None))?;
     }
-    Ok(())
+    Ok(keys)
 }
 
-/// Inserts a key by each word of a text, all with these names and with a variable as their value.
-fn put_words<'src>(
-    keys: &mut Keys<'src>,
+/// Makes keys with the words of a text as their texts, whatever their name, and with a variable as
+/// the value of each.
+fn keyed<'src>(
+    alloc: Global,
     words: &'src str,
-    names: &[Name<'src>],
-) -> Result<(), AllocError> {
+    name: Name<'src>,
+) -> Result<Keys<'src>, AllocError> {
+    let mut keys = BTreeMap::new(alloc);
     for word in words.split_whitespace() {
-        for name in names {
-            insert_variable(keys, word, *name)?;
-        }
+        insert_variable(&mut keys, word, name)?;
     }
-    Ok(())
+    Ok(keys)
 }
 
-/// Writes the attribute with the first name of a text: with a number of arguments, each a variable
-/// with its name, and the other names as its keys; or, if it is keyed, with the words of the first
-/// field as its keys, whose names and values are the second name. Or writes why it is refused.
-pub fn makes(answer: &mut Answer, fields: &[String], is_keyed: bool) {
+/// Writes the attribute that is made of a number of arguments and the names of a text.
+pub(crate) fn makes(answer: &mut Answer, fields: &[String]) {
     match names_of(answer.alloc(), field_at(fields, 1)) {
-        Ok(names) => push_new(&names, answer, fields, is_keyed),
+        Ok(names) => push_new(&names, answer, number_at(fields, 0) as usize),
         Err(_) => answer.fail(),
     }
 }
 
-fn push_new<'src>(
-    names: &[Name<'src>],
-    answer: &mut Answer,
-    fields: &'src [String],
-    is_keyed: bool,
-) {
-    match names.split_first() {
-        Some((name, others)) if !is_keyed || others.len() == 1 => {
-            push_named(answer, *name, others, fields, is_keyed)
-        }
-        _ => answer.push("none"),
+/// Writes the attribute that is made of keys and the two names of a text.
+pub(crate) fn makes_keyed(answer: &mut Answer, fields: &[String]) {
+    match names_of(answer.alloc(), field_at(fields, 1)) {
+        Ok(names) => push_keyed(&names, answer, field_at(fields, 0)),
+        Err(_) => answer.fail(),
     }
 }
 
-fn push_named<'src>(
+/// Writes the attribute with the first of these names, with the others as its keys, and with `count`
+/// positional arguments, each a variable with the attribute's name; or why it is refused.
+fn push_new<'src>(names: &[Name<'src>], answer: &mut Answer, count: usize) {
+    match names.split_first() {
+        Some((name, others)) => push_with_others(answer, *name, others, count),
+        None => answer.push("none"),
+    }
+}
+
+fn push_with_others<'src>(
     answer: &mut Answer,
     name: Name<'src>,
     others: &[Name<'src>],
-    fields: &'src [String],
-    is_keyed: bool,
+    count: usize,
 ) {
     let Some(kind) = AttributeKind::from_name(name.lexeme()) else {
         return answer.push("none");
     };
-    let mut keys = BTreeMap::new(answer.alloc());
-    let (count, is_put) = if is_keyed {
-        (0, put_words(&mut keys, field_at(fields, 0), others).is_ok())
-    } else {
-        let count = number_at(fields, 0) as usize;
-        (count, put_names(&mut keys, others).is_ok())
+    match keys(answer.alloc(), others) {
+        Ok(keys) => push_with_keys(answer, (name, kind), keys, count),
+        Err(_) => answer.fail(),
+    }
+}
+
+/// Writes the attribute with the first of these names, which has a key for each of the words, whose
+/// name and whose value are the second one; or why it is refused.
+fn push_keyed<'src>(names: &[Name<'src>], answer: &mut Answer, words: &'src str) {
+    match names {
+        [name, given] => push_with_value(answer, *name, words, *given),
+        _ => answer.push("none"),
+    }
+}
+
+fn push_with_value<'src>(
+    answer: &mut Answer,
+    name: Name<'src>,
+    words: &'src str,
+    given: Name<'src>,
+) {
+    let Some(kind) = AttributeKind::from_name(name.lexeme()) else {
+        return answer.push("none");
     };
-    if is_put {
-        push_with_keys(answer, (name, kind), keys, count);
-    } else {
-        answer.fail();
+    match keyed(answer.alloc(), words, given) {
+        Ok(keys) => push_with_keys(answer, (name, kind), keys, 0),
+        Err(_) => answer.fail(),
     }
 }
 
