@@ -1,5 +1,5 @@
 -- What is told of a file.
-use Rattle.std.proofs.Common.{◌≡◌, ◌∙◌, ℕ, Bool, List, [], Result, Ok, Err, IfOk, subst}
+use Rattle.std.proofs.Common.{◌≡◌, ◌∙◌, ℕ, Bool, true, List, [], Result, Ok, Err, IfOk, subst}
 use Rattle.std.specs.Global.{Vec}
 use Rattle.std.specs.List.{flat_map}
 use Rattle.justfile_ast.specs.declared.ast.Ast.{Ast}
@@ -13,7 +13,7 @@ use Rattle.justfile_lint.specs.declared.file.Findings.{Findings}
 use Rattle.justfile_findings.specs.Findings.{AreFindings}
 use Rattle.editor_language.specs.declared.parts.Finding.{Finding}
 use Rattle.justfile_analysis.specs.Parts.{IsNone}
-use Rattle.justfile_server.specs.Findings.{AreFindingsOf, AreInText, of_none}
+use Rattle.justfile_server.specs.Findings.{AreBeside, AreFindingsOf, AreInText, of_none, of_rest}
 
 -- what is told of what was found
 pub of_file : {E : Type 0} (imported : Bool) (ast : Ast) (linted : Findings) (ps : List Problem) (cs : List Circle) (ds : List Definition) (us : List Use) (r : Result (Vec Finding) E)
@@ -37,3 +37,8 @@ of_file imported ast linted ps cs ds us (Ok found) are ps_are cs_are ds_are us_a
 pub without_tree : {E : Type 0} (r : Result (Vec Finding) E) (imported : Bool) (text : List ℕ) → IsNone text → IfOk r (λ found. found.items ≡ []) → IfOk r (λ found. AreInText imported text found.items)
 without_tree (Ok found) imported text none h = of_none none h
 without_tree (Err e) imported text none h = tt
+
+-- what is told beside what is wrong
+pub beside : {E : Type 0} (r : Result (Vec Finding) E) (text rest : List ℕ) → text ≡ rest → IfOk r (λ found. AreInText true text found.items) → IfOk r (λ found. AreBeside rest found.items)
+beside (Ok found) text rest same are = of_rest (subst (λ t. AreInText true t found.items) same are)
+beside (Err e) text rest same are = tt
