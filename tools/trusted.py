@@ -148,7 +148,11 @@ GROUPS = [
         ("justfile_parse/src/parser.rt", ["parse", "parse_source"]),
         ("justfile_ast/src/ast.rt", ["print", "print_to", "printable"]),
     ],
-    [("justfile_files/src/run.rt", ["run"]), ("line_diff/src/unified.rt", ["unified_diff"])],
+    [
+        ("justfile_files/src/run.rt", ["run"]),
+        ("justfile_files/src/lint.rt", ["lint"]),
+        ("line_diff/src/unified.rt", ["unified_diff"]),
+    ],
     [("justfile_c/src/lib.rt", ["justfile_format"])],
     [
         ("justfile_lint/src/file.rt", ["lint", "lint_with_circles"]),
