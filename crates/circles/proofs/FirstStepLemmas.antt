@@ -1,7 +1,8 @@
 -- The first edge from a node with a flag is its first step.
-use Rattle.std.proofs.Common.{◌≡◌, ◌==◌, ◌∙◌, ◌<◌, ℕ, zero, suc, Bool, true, false, List, Some, None, length, get_or, refl, sym, subst, ap, inl, inr, arith, eqb-true, eq-eqb}
+use Rattle.std.proofs.Common.{◌≡◌, ◌∙◌, ◌<◌, ℕ, zero, suc, Bool, true, false, List, Some, None, length, get_or, refl, sym, subst, ap, inl, inr, arith, eq-eqb}
+use Rattle.std.proofs.lemmas.Bool.Decides.{nat_tests}
 use Rattle.std.specs.Option.{option_or}
-use Rattle.std.proofs.lemmas.Bool.{cases_Bool, cases_lt}
+use Rattle.std.proofs.lemmas.Bool.{cases_lt}
 use Rattle.circles.specs.declared.edge.Edge.{Edge}
 use Rattle.circles.specs.declared.edge.TheConstants.{NO_EDGE}
 use Rattle.circles.specs.Circles.{AreInCircles}
@@ -18,15 +19,7 @@ module _ (edges : List Edge) (flags : List Bool) where
   flag_of index node h = grind (arith, h.0, eq-eqb _ _ h.1)
 
   of_flag : (index node k : ℕ) → flagged edges flags index node ≡ Some k → Flagged index node × (index ≡ k)
-  of_flag index node k e =
-      elim (cases_Bool (get_or flags index false)) [
-        | inl t ↦
-            elim (cases_Bool (start_of edges index == node)) [
-              | inl s ↦ ((t, eqb-true _ _ s), grind (arith, t, s, e))
-              | inr s ↦ absurd (grind (arith, t, s, e))
-            ]
-        | inr f ↦ absurd (grind (arith, f, e))
-      ]
+  of_flag index node k e = ((grind (arith, nat_tests), grind (arith, nat_tests)), grind (arith, nat_tests))
 
   -- the first one
   record Firsts (count node index : ℕ) : Type 0 where

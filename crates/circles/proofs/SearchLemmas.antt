@@ -1,6 +1,7 @@
 -- What a search has reached while it passes one node after another.
 use Rattle.std.proofs.Common.{◌≡◌, ◌==◌, ◌+◌, ◌<◌, ◌≤◌, ◌≢◌, ◌⊎◌, ◌↔◌, ℕ, zero, suc, Bool, true, not, All, Contains, List, [], ◌∷◌, filter, length, map, get_or, refl, sym, ◌∙◌, subst, ap, inl, inr, arith, eqb-true}
-use Rattle.std.proofs.lemmas.Bool.{cases_Bool, cases_lt, cond-true, cond_both, eqb-false, not-true, not_from_false}
+use Rattle.std.proofs.lemmas.Bool.Decides.{nat_tests}
+use Rattle.std.proofs.lemmas.Bool.{cases_Bool, cond-true, cond_both, not_from_false}
 use Rattle.std.proofs.lemmas.List.{get_or-map, get_or_append_left, get_or_default, length-append, length-map}
 use Rattle.std.proofs.lemmas.List.Elements.{All-append, All-cons, All-contains, All-contains_itself, All-filter, All-map, All-nil, All-same, Contains-append_left, Contains-append_right, Contains-push, filter_passes}
 use Rattle.std.proofs.lemmas.List.Filters.{length-filter_both}
@@ -105,13 +106,7 @@ module _ (edges : List Edge) (from : ℕ) (pending : List Edge) (reached : List 
         (All-filter (λ (e : Edge). not (e.from == node)) (λ (e : Edge). (k : ℕ) → k < passed → get_or reached k 0 ≢ e.from) pending searched.apart)
 
     rest_apart : All (λ (e : Edge). (k : ℕ) → k < passed + 1 → get_or new k 0 ≢ e.from) rest
-    rest_apart j d h k less same =
-        elim (cases_lt k passed) [
-          | inl l ↦ rest_before j d h k l (sym (new_at k (omega (arith, l, more))) ∙ same)
-          | inr g ↦
-              let last : k ≡ passed = omega (arith, g, less) in
-              eqb-false _ _ (not-true _ (rest_other j d h)) (sym same ∙ ap (λ n. get_or new n 0) last ∙ new_at passed more ∙ sym node_is)
-        ]
+    rest_apart j d h k less same = grind (arith, nat_tests, rest_before j d h k, rest_other j d h, new_at k, more)
 
     pub search_more : Searched edges from rest new (passed + 1)
     search_more = record {

@@ -1,5 +1,6 @@
 -- Walks by a map of edges.
 use Rattle.std.proofs.Common.{◌≡◌, ◌∙◌, ◌⊎◌, ℕ, Contains, List, [], ◌∷◌, ◌++◌, Option, Some, None, cond, nat_eq, unwrap_or, refl, sym, subst, ap, inl, inr, arith, eqb-true, eq-eqb}
+use Rattle.std.proofs.lemmas.Bool.Decides.{nat_tests}
 use Rattle.std.specs.Prelude.{⊤}
 use Rattle.std.proofs.lemmas.Bool.{cases_Bool}
 use Rattle.std.proofs.lemmas.List.Elements.{Contains-append_left, Contains-append_right, Contains-push, Contains-push_cases, Contains-append_cases}
@@ -67,18 +68,10 @@ walk_push edges steps (k ∷ ks) from node index w s = (w.0, walk_push edges ste
 module _ (edges : List Edge) (from : ℕ) (old steps new : Steps) (gone : List ℕ) (node index : ℕ) (walks : Walks edges from old steps gone node) (has : step_from steps node ≡ Some index)
     (updates : (other : ℕ) → step_from new other ≡ cond (nat_eq node other) None (step_from steps other)) where
   others_kept : (other i : ℕ) → step_from new other ≡ Some i → step_from steps other ≡ Some i
-  others_kept other i s =
-      elim (cases_Bool (nat_eq node other)) [
-        | inl t ↦ absurd (not_both _ i s (updates other ∙ ap (λ b. cond b None (step_from steps other)) t))
-        | inr f ↦ sym (ap (λ b. cond b None (step_from steps other)) f) ∙ sym (updates other) ∙ s
-      ]
+  others_kept other i s = grind (arith, nat_tests, updates other)
 
   none_stays : (other : ℕ) → step_from steps other ≡ None → step_from new other ≡ None
-  none_stays other n =
-      elim (cases_Bool (nat_eq node other)) [
-        | inl t ↦ updates other ∙ ap (λ b. cond b None (step_from steps other)) t
-        | inr f ↦ updates other ∙ ap (λ b. cond b None (step_from steps other)) f ∙ n
-      ]
+  none_stays other n = grind (arith, nat_tests, updates other)
 
   node_out : (other : ℕ) → node ≡ other → step_from new other ≡ None
   node_out other e = updates other ∙ ap (λ b. cond b None (step_from steps other)) (eq-eqb node other e)

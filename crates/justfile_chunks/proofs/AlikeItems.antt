@@ -1,6 +1,6 @@
 -- Written items and what they mean have the same form: constructs, comments and line ends in the same places. So docs are taken alike.
 use Rattle.std.proofs.Common.{◌≡◌, ◌∙◌, ℕ, Bool, List, [], ◌∷◌, Some, refl, sym, ap, subst}
-use Rattle.justfile_model.specs.Grammars.Docs.{Before, LineEnd, Nothing, Other}
+use Rattle.justfile_model.specs.Grammars.Docs.{Before, LineEnd, Other}
 use Rattle.justfile_model.specs.Grammars.Files.{undocumented}
 use Rattle.justfile_model.specs.Trees.LeafView.{LeafView}
 use Rattle.justfile_model.specs.Trees.Tree.{Comment, Construct, Content, Item, Newline, OrderedItem, WrittenItem}
@@ -12,15 +12,13 @@ use Rattle.justfile_chunks.proofs.DocsAppend.{AreApart, BeginsNoConstruct, Takes
 abbrev pub before_after : {A B C S D : Type 0} → Before → List (Item A B C S D) → Before
 before_after before [] = before
 before_after before (Newline ∷ items) = before_after LineEnd items
-before_after before (Comment text ∷ items) = before_after Other items
-before_after before (Construct attributes content ∷ items) = before_after Other items
+before_after before (i ∷ items) = before_after Other items
 
 pub before_next_is : {A B C S D : Type 0} (has_doc : D → Bool) (before : Before) (items : List (Item A B C S D))
     → before_next has_doc before items ≡ before_after before items
 before_next_is has_doc before [] = refl
 before_next_is has_doc before (Newline ∷ items) = before_next_is has_doc LineEnd items
-before_next_is has_doc before (Comment text ∷ items) = before_next_is has_doc Other items
-before_next_is has_doc before (Construct attributes content ∷ items) = before_next_is has_doc Other items
+before_next_is has_doc before (i ∷ items) = before_next_is has_doc Other items
 
 -- the same form
 pub data Alike {A B C S D A' B' C' S' D' : Type 0} : List (Item A B C S D) → List (Item A' B' C' S' D') → Type 0 where
@@ -56,16 +54,13 @@ module _ {A B C S D A' B' C' S' D' : Type 0} where
   alike_after (construct a) before = alike_after a Other
 
   begins_alike : {items : List (Item A B C S D)} {others : List (Item A' B' C' S' D')} → Alike items others → BeginsNoConstruct items → BeginsNoConstruct others
-  begins_alike nil h = tt
-  begins_alike (newline a) h = tt
-  begins_alike (comment a) h = tt
   begins_alike (construct a) h = h
+  begins_alike _ h = tt
 
   takes_alike : {items : List (Item A B C S D)} {others : List (Item A' B' C' S' D')} → Alike items others → (before : Before) → TakesNone before items
       → TakesNone before others
-  takes_alike a Nothing h = begins_alike a h
-  takes_alike a LineEnd h = begins_alike a h
   takes_alike a Other h = h
+  takes_alike a _ h = begins_alike a h
 
   pub alike_apart : {items js : List (Item A B C S D)} {others ks : List (Item A' B' C' S' D')} → Alike items others → Alike js ks → (before : Before)
       → AreApart before items js → AreApart before others ks

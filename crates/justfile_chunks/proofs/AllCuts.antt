@@ -92,13 +92,7 @@ module _ {I J X F : Type 0} (P : I → X → F → Type 0) (Q : J → X → F �
 
 with_each : {I J X F : Type 0} (P : I → List X → List F → Type 0) (Q : J → List X → List F → Type 0) (is : List I) (js : List J) (items : List X) (features : List F)
     → ((xs : List (List X)) (fs : List (List F)) → Each P is xs fs → Each Q js xs fs) → ChunksHave P is items features → ChunksHave Q js items features
-with_each P Q is js items features f h = record {
-  each_items = h.each_items;
-  each_features = h.each_features;
-  have = f h.each_items h.each_features h.have;
-  items_are = h.items_are;
-  features_are = h.features_are;
-}
+with_each P Q is js items features f h = search (h, f)
 
 have_same : {I J X F : Type 0} (P : I → List X → List F → Type 0) (Q : J → List X → List F → Type 0) (is : List I) (js : List J)
     → AllZip (λ i j. (xs : List X) (fs : List F) → P i xs fs ↔ Q j xs fs) is js → (items : List X) (features : List F)
@@ -168,17 +162,14 @@ module _ {X F : Type 0} (newline : X) (Derives : List Tok → List X → List F 
               → features ≡ flat_map (λ fs. fs) noted → Derives (front ++ rest) all features
           from (s ∷ alls) (fs ∷ noted) d e g =
               let n = begins alls noted d.1 in
-              (cut_law front rest feed eof feed_is eof_is cut all features).1 (record {
-                left = s;
-                right = n.0;
-                left_features = fs;
-                right_features = flat_map (λ fs. fs) noted;
-                left_derives = d.0;
-                right_derives = (law (newline ∷ n.0) (flat_map (λ fs. fs) noted)).1
-                    (record { each_items = alls; each_features = noted; have = d.1; items_are = sym n.1; features_are = refl });
-                all_is = e ∙ ap (λ y. s ++ y) n.2;
-                features_are = g;
-              })
+              (cut_law front rest feed eof feed_is eof_is cut all features).1
+              (search (
+                d.0,
+                (law (newline ∷ n.0) (flat_map (λ fs. fs) noted)).1
+                    (record { each_items = alls; each_features = noted; have = d.1; items_are = sym n.1; features_are = refl }),
+                e ∙ ap (λ y. s ++ y) n.2,
+                g,
+              ))
           from _ _ d e g = absurd d
 
     module _ (b : Borders) where

@@ -44,10 +44,7 @@ asked_is None k e = cc
 asked_is (Some j) k e = by j e
   where
     by : (j : TokenKind) → asked_of j ≡ Some k → ◌≡◌ {A = Option TokenKind} (Some j) (Some k)
-    by kinds.Indent e = e
-    by kinds.Comment e = e
-    by kinds.Eol e = e
-    by kinds.Eof e = e
+    by kinds.Indent e = cc
     by _ e = cc
 
 pub cut_next : (e ts us : List Tok) → SameAsked ts us → IsCut e ts → IsCut e us
@@ -108,13 +105,7 @@ module _ (d : ℕ) (dark : IsDark d) where
     class_tells classes.Blank h no_backslash = cc
     class_tells classes.LineFeed h no_backslash = cc
     class_tells classes.CarriageReturn h no_backslash = cc
-    class_tells classes.IdentifierStart h no_backslash = inside_tells _ (class_inside start_mode (d ∷ v) classes.IdentifierStart tt)
-    class_tells classes.IdentifierContinue h no_backslash = inside_tells _ (class_inside start_mode (d ∷ v) classes.IdentifierContinue tt)
-    class_tells classes.Quote h no_backslash = inside_tells _ (class_inside start_mode (d ∷ v) classes.Quote tt)
-    class_tells classes.Opener h no_backslash = inside_tells _ (class_inside start_mode (d ∷ v) classes.Opener tt)
-    class_tells classes.Closer h no_backslash = inside_tells _ (class_inside start_mode (d ∷ v) classes.Closer tt)
-    class_tells classes.Fixed h no_backslash = inside_tells _ (class_inside start_mode (d ∷ v) classes.Fixed tt)
-    class_tells classes.Lead h no_backslash = inside_tells _ (class_inside start_mode (d ∷ v) classes.Lead tt)
+    class_tells k h no_backslash = inside_tells _ (class_inside start_mode (d ∷ v) k tt)
 
     first_found : (e : List Tok) (t : Tok) (ts : List Tok) → Later e (t ∷ ts) → text_of (t ∷ ts) ≡ d ∷ v
         → next start_mode (d ∷ v) ≡ Ok (t.kind, length t.lexeme)

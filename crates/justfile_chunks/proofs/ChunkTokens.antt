@@ -152,8 +152,7 @@ pub record NextPart (earlier part rest : List Tok) : Type 0 where
 
 parts_some : {earlier later : List Tok} {parts : List (List Tok)} → Parts earlier later parts → 0 < length later
 parts_some Parts.last = omega arith
-parts_some (Parts.cut c rest) = omega arith
-parts_some (Parts.uncut u rest) = omega arith
+parts_some _ = omega arith
 
 cut_goes_on : (e rest : List Tok) → IsCut e rest → next_kind rest ≢ Some kinds.Eof
 cut_goes_on [] rest c = absurd c
@@ -220,16 +219,7 @@ next_part earlier later part parts h s =
     record {
       some = a.some;
       more = l;
-      is_part = record {
-        tidy = start_tidy earlier h.same;
-        same = h.same;
-        colons = no_colon (mode earlier) start_mode;
-        no_eof = a.no_eof;
-        uncut = s.uncut;
-        fed = a.fed;
-        utf8 = a.utf8;
-        run = a.run;
-      };
+      is_part = assumption (start_tidy earlier h.same, no_colon (mode earlier) start_mode, h, s, a);
       ended = a.ended;
       bytes = a.bytes;
       feeds = feed_of (text_of part) a.fed a.bytes;

@@ -1,5 +1,6 @@
 -- The laws for trees, tokens and numbers: the tree of a text is that of its chunks, moved and joined.
 use Rattle.std.proofs.Common.{◌≡◌, ◌∙◌, ℕ, ◌+◌, Bool, true, false, cond, not, List, [], ◌∷◌, ◌++◌, inl, inr, length, map, drop, refl, sym, ap, subst, arith, length-append}
+use Rattle.std.proofs.lemmas.Bool.Decides.{nat_tests}
 use Rattle.std.proofs.lemmas.List.{map-append}
 use Rattle.std.specs.Prelude.{◌↔◌}
 use Rattle.std.specs.List.{AllByRecursion, AllZip, flat_map}
@@ -66,15 +67,7 @@ module _ (conditions : Conditions) where
           let us = map (in_text chunk) l.0 in
           let e = near_derive tokens us (near_tokens tokens us (c.near.near l.0 l.1 l.2) false) d in
           let b = derives_moved chunk.offset chunk.line conditions l.0 all features (tree_from conditions us e) in
-          record {
-            tokens = l.0;
-            lexed = l.1;
-            own_tree = b.unmoved;
-            own_features = b.noted;
-            derives = b.derives;
-            tree_is = b.tree_is;
-            features_are = b.features_are;
-          }
+          search (l, b)
 
 -- ---- all chunks
 
@@ -127,13 +120,7 @@ near_bytes _ _ h = absurd h
 
 bytes_moved : (offset line : ℕ) (us : List Tok) → with_bytes (map (moved offset line) us) ≡ map (moved offset line) (with_bytes us)
 bytes_moved offset line [] = refl
-bytes_moved offset line (u ∷ us) = by (not (is_empty u.lexeme)) (bytes_moved offset line us)
-  where
-    by : (b : Bool) → with_bytes (map (moved offset line) us) ≡ map (moved offset line) (with_bytes us)
-        → cond b (moved offset line u ∷ with_bytes (map (moved offset line) us)) (with_bytes (map (moved offset line) us))
-        ≡ map (moved offset line) (cond b (u ∷ with_bytes us) (with_bytes us))
-    by true h = ap (λ l. moved offset line u ∷ l) h
-    by false h = h
+bytes_moved offset line (u ∷ us) = grind (arith, nat_tests, bytes_moved offset line us)
 
 bytes_closed : (ts : List Tok) (t : Tok) → t.lexeme ≡ [] → with_bytes (ts ++ (t ∷ [])) ≡ with_bytes ts
 bytes_closed [] t e = ap (λ l. cond (not (is_empty l)) (t ∷ []) []) e

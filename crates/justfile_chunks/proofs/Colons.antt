@@ -2,8 +2,6 @@
 use Rattle.std.proofs.Common.{◌≡◌, ℕ, Bool, true, false, cond, List, [], ◌∷◌, Option, refl, sym, ap, subst}
 use Rattle.justfile_vocabulary.specs.declared.token_kind.TokenKind.{TokenKind}
 use Rattle.justfile_vocabulary.specs.declared.token_kind.TokenKind.TheVariants as kinds
-use Rattle.justfile_model.specs.Grammars.AttributeLines as attributes
-use Rattle.justfile_model.specs.Grammars.AttributeLines.{AttributeLines}
 use Rattle.justfile_model.specs.Grammars.Expressions.{Tokens, IsKind}
 use Rattle.justfile_model.specs.Grammars.Features.{ConstructFeatures, Noted}
 use Rattle.justfile_model.specs.Grammars.Grammar as g
@@ -12,7 +10,7 @@ use Rattle.justfile_model.specs.Grammars.Headers as headers
 use Rattle.justfile_model.specs.Grammars.Headers.{HeaderOf, Parameters}
 use Rattle.justfile_model.specs.Lexing.SignificantTokens.{SignificantToken, is_whitespace, significant_from}
 use Rattle.justfile_model.specs.Lexing.Tok.{Tok}
-use Rattle.justfile_model.specs.Trees.Tree.{Content, Header, Parameter, WrittenAttribute, WrittenItem}
+use Rattle.justfile_model.specs.Trees.Tree.{Content, Header, Parameter, WrittenItem}
 use Rattle.justfile_chunks.proofs.AgainAttributes as again_attributes
 use Rattle.justfile_chunks.proofs.AgainHeaders as again_headers
 use Rattle.justfile_chunks.proofs.AgainItems as again_items
@@ -34,14 +32,33 @@ abbrev pub IndentsHaveColons : Bool → List Tok → Type 0
 IndentsHaveColons colon [] = Unit {0}
 IndentsHaveColons colon (t ∷ ts) = NeedsColon t.kind colon × IndentsHaveColons (colon_after t.kind colon) ts
 
+-- the last token is one of this kind
+abbrev pub LastIs : TokenKind → Tokens → Type 0
+LastIs kind [] = ⊥
+LastIs kind (t ∷ []) = IsKind kind t
+LastIs kind (t ∷ u ∷ ts) = LastIs kind (u ∷ ts)
+
+last_more : (kind : TokenKind) (t : SignificantToken) (ts : Tokens) → LastIs kind ts → LastIs kind (t ∷ ts)
+last_more kind t [] h = absurd h
+last_more kind t (u ∷ ts) h = h
+
+-- they are so, and the last token is the end
 pub record Colons (colon : Bool) (ts : Tokens) : Type 0 where
   pub are : IndentsHaveColons colon (bare ts)
+  pub last : LastIs kinds.Eof ts
 
 -- ---- tokens
 
 put : {kind : TokenKind} {t : SignificantToken} {ts : Tokens} (colon : Bool) → IsKind kind t → NeedsColon kind colon → Colons (colon_after kind colon) ts
     → Colons colon (t ∷ ts)
-put {ts = ts} colon kind n h = record { are = subst (λ k. NeedsColon k colon × IndentsHaveColons (colon_after k colon) (bare ts)) (sym kind) (n, h.are) }
+put {t = t} {ts = ts} colon kind n h = record {
+  are = subst (λ k. NeedsColon k colon × IndentsHaveColons (colon_after k colon) (bare ts)) (sym kind) (n, h.are);
+  last = last_more kinds.Eof t ts h.last;
+}
+
+-- the end
+put_end : {t : SignificantToken} (colon : Bool) → IsKind kinds.Eof t → Colons colon (t ∷ [])
+put_end colon kind = record { are = (subst (λ k. NeedsColon k colon) (sym kind) tt, tt); last = kind }
 
 quiet_needs : (k : TokenKind) → is_quiet k ≡ true → (colon : Bool) → NeedsColon k colon
 quiet_needs kinds.Indent q colon = cc
@@ -59,14 +76,19 @@ over : {ok : TokenKind → Bool} (needs : (k : TokenKind) → ok k ≡ true → 
     → Over ok rest y ts after
     → ((colon : Bool) → Colons colon rest) → (colon : Bool) → Colons colon ts
 over needs same h colon = h colon
-over needs (step {t = t} q o) h colon = let r = over needs o h (colon_after t.tok.kind colon) in record { are = (needs t.tok.kind q colon, r.are) }
+over needs (step {t = t} {a = ts} q o) h colon =
+    let r = over needs o h (colon_after t.tok.kind colon) in
+    record { are = (needs t.tok.kind q colon, r.are); last = last_more kinds.Eof t ts r.last }
 
 -- a colon stays
 over_colon : {rest y ts after : Tokens} → Over is_quiet rest y ts after → Colons true rest → Colons true ts
 over_colon same h = h
 over_colon (step {t = t} {a = ts} q o) h =
     let r = over_colon o h in
-    record { are = (quiet_needs t.tok.kind q true, subst (λ c. IndentsHaveColons c (bare ts)) (sym (quiet_keeps t.tok.kind q)) r.are) }
+    record {
+      are = (quiet_needs t.tok.kind q true, subst (λ c. IndentsHaveColons c (bare ts)) (sym (quiet_keeps t.tok.kind q)) r.are);
+      last = last_more kinds.Eof t ts r.last;
+    }
 
 before_colons : {comment : Option (List ℕ)} {ts rest : Tokens} → BeforeBody comment ts rest → Colons true rest → Colons true ts
 before_colons (g.at_once kind kind2) h = put true kind tt (put true kind2 refl h)
@@ -98,20 +120,6 @@ module _ {A B C S : Type 0} (projection : TokenProjection A B C S) (MayEnter : �
       let d = again_headers.all_dependencies projection.leaf projection.position projection.star MayEnter ds a in
       λ colon. put colon kind tt (parameters_colons ps d.ahead (over_colon d.over h) colon)
 
-  attributes_colons : {ws : List (WrittenAttribute A B)} {fs : List (Noted B)} {ts rest : Tokens}
-      → AttributeLines projection.leaf projection.position MayEnter ws fs ts rest
-      → ((colon : Bool) → Colons colon rest) → (colon : Bool) → Colons colon ts
-  attributes_colons (attributes.none n) h = h
-  attributes_colons (attributes.line {next = next} kind b e others) h =
-      let end = again_attributes.attributes_end projection.leaf projection.position MayEnter e next in
-      let r = again_attributes.bracketed projection.leaf projection.position MayEnter b end.ahead in
-      over quiet_needs (step (ap is_quiet kind) r.over) (end_colons e (attributes_colons others h))
-    where
-      end_colons : {comment : Option (List ℕ)} {ts rest : Tokens} → attributes.AttributesEnd projection.leaf projection.position MayEnter comment ts rest
-          → ((colon : Bool) → Colons colon rest) → (colon : Bool) → Colons colon ts
-      end_colons (attributes.bare k) i colon = put colon k tt (i colon)
-      end_colons (attributes.commented k k2) i colon = put colon k tt (put colon k2 tt (i colon))
-
   block_colons : {c : Content A B C S} {fs : List (Noted B)} {ts rest : Tokens} → Block projection MayEnter c fs ts rest → ((colon : Bool) → Colons colon rest)
       → (colon : Bool) → Colons colon ts
   block_colons {rest = rest} (g.recipe {body = body} x before lines some) h =
@@ -123,13 +131,17 @@ module _ {A B C S : Type 0} (projection : TokenProjection A B C S) (MayEnter : �
     pub items_colons : {items : List (WrittenItem A B C S)} {fs : List (ConstructFeatures B)} {ts : Tokens} → Items projection MayEnter items fs ts
         → (colon : Bool)
         → Colons colon ts
-    items_colons (g.end kind) colon = put colon kind tt (record { are = tt })
+    items_colons (g.end kind) colon = put_end colon kind
     items_colons (g.blank kind more) colon = put colon kind tt (items_colons more colon)
     items_colons (g.comment kind r) colon = put colon kind tt (rest_colons r colon)
     items_colons (g.on_line a o r) colon =
         let x = again_items.on_line projection MayEnter o (self_ahead projection MayEnter r) in
-        attributes_colons a (over quiet_needs x.over (rest_colons r)) colon
-    items_colons (g.block a b more) colon = attributes_colons a (block_colons b (items_colons more)) colon
+        let y = again_attributes.attribute_lines projection.leaf projection.position MayEnter a x.ahead in
+        over inside_needs y.over (over quiet_needs x.over (rest_colons r)) colon
+    items_colons (g.block {rest = rest} a b more) colon =
+        let x = again_items.block projection MayEnter b rest in
+        let y = again_attributes.attribute_lines projection.leaf projection.position MayEnter a x.ahead in
+        over inside_needs y.over (block_colons b (items_colons more)) colon
 
     rest_colons : {items : List (WrittenItem A B C S)} {fs : List (ConstructFeatures B)} {ts : Tokens} → ItemRest projection MayEnter items fs ts
         → (colon : Bool) → Colons colon ts
@@ -139,7 +151,7 @@ module _ {A B C S : Type 0} (projection : TokenProjection A B C S) (MayEnter : �
     end_colons : {items : List (WrittenItem A B C S)} {fs : List (ConstructFeatures B)} {ts : Tokens} → g.LineEnd projection MayEnter items fs ts
         → (colon : Bool) → Colons colon ts
     end_colons (g.line_end kind more) colon = put colon kind tt (items_colons more colon)
-    end_colons (g.file_end kind) colon = put colon kind tt (record { are = tt })
+    end_colons (g.file_end kind) colon = put_end colon kind
 
   pub file_colons : {items : List (WrittenItem A B C S)} {fs : List (ConstructFeatures B)} {ts : Tokens} → File projection MayEnter items fs ts
       → (colon : Bool) → Colons colon ts
@@ -154,8 +166,7 @@ white_needs _ e colon = tt
 
 white_keeps : (k : TokenKind) → is_whitespace k ≡ true → (colon : Bool) → colon_after k colon ≡ colon
 white_keeps kinds.Colon e colon = cc
-white_keeps kinds.Dedent e colon = cc
-white_keeps _ e colon = refl
+white_keeps _ e colon = cc
 
 pub with_whitespace : (ts : List Tok) (glued colon : Bool) → IndentsHaveColons colon (bare (significant_from glued ts)) → IndentsHaveColons colon ts
 with_whitespace [] glued colon h = tt

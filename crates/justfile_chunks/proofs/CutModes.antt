@@ -109,8 +109,7 @@ module _ (m : Mode) (rest : List ℕ) where
     where
       whole : (d : StringDelimiter) → IsInside (token_kind_of d)
       whole delimiters.Backtick = tt
-      whole delimiters.QuoteDouble = tt
-      whole delimiters.QuoteSingle = tt
+      whole _ = tt
 
   close_inside : (o : Option OpenDelimiter) (d : Delimiter) (k : TokenKind) → IsInside k → Inside (closing_delimiter o d k)
   close_inside None d k h = none
@@ -179,13 +178,7 @@ module _ (m : Mode) (rest : List ℕ) where
       (either (eqb (get_or rest 1 0) 13) (either (eqb (get_or rest 2 0) 10) (is tt) refused)
       (either (eqb (length (drop 1 rest)) 0) refused refused)))
       refused)
-  inline_plain classes.IdentifierStart = inside_ends m _ (class_inside m rest classes.IdentifierStart tt)
-  inline_plain classes.IdentifierContinue = inside_ends m _ (class_inside m rest classes.IdentifierContinue tt)
-  inline_plain classes.Quote = inside_ends m _ (class_inside m rest classes.Quote tt)
-  inline_plain classes.Opener = inside_ends m _ (class_inside m rest classes.Opener tt)
-  inline_plain classes.Closer = inside_ends m _ (class_inside m rest classes.Closer tt)
-  inline_plain classes.Fixed = inside_ends m _ (class_inside m rest classes.Fixed tt)
-  inline_plain classes.Lead = inside_ends m _ (class_inside m rest classes.Lead tt)
+  inline_plain k = inside_ends m _ (class_inside m rest k tt)
 
 abbrev NotDedent : TokenKind → Type 0
 NotDedent kinds.Dedent = ⊥
@@ -199,9 +192,8 @@ text_fact : (l b : ℕ) → NoDedent (text_or l b)
 text_fact zero b = lines (eqb b 10) (eqb b 13)
   where
     lines : (s t : Bool) → NoDedent (cond {A = NextToken} s (Ok (kinds.Eol, 1)) (cond t (Ok (kinds.Eol, 2)) (Ok (kinds.InterpolationStart, 2))))
-    lines true t = tt
     lines false true = tt
-    lines false false = tt
+    lines _ _ = tt
 text_fact (suc l) b = tt
 
 -- within a line no dedent comes
@@ -222,8 +214,7 @@ no_dedent_within m rest n e = by (region_by m.in_body m.interpolation) e
 
 pub or_none : (os : List OpenDelimiter) (o : Option Tok) → (not (is_empty os) || is_some o) ≡ false → (os ≡ []) × (o ≡ None)
 or_none [] None h = (refl, refl)
-or_none [] (Some t) h = cc
-or_none (x ∷ os) o h = cc
+or_none _ _ h = cc
 
 -- In a body, where nothing is nested, whitespace is the blanks at the start of a line, and no indent comes.
 abbrev pub NextFact : Mode → List ℕ → TokenKind → ℕ → Type 0
@@ -266,9 +257,8 @@ not_interpolated true e = cc
 not_interpolated false e = cc
 
 not_outside : (b : Bool) (o : Option Tok) → region_by b o ≡ OutsideText → b ≡ true → ⊥
-not_outside b (Some t) e h = cc
 not_outside true None e h = cc
-not_outside false None e h = cc
+not_outside _ _ e h = cc
 
 module _ (m : Mode) (rest : List ℕ) where
   of_region : (r : Region) → region_by m.in_body m.interpolation ≡ r → NextEnds m rest (token_in_region r m rest)
@@ -339,9 +329,8 @@ not_in_body : (m : Mode) → BodyHasLevel m → m.levels ≡ [] → m.in_body �
 not_in_body m c e = false_from_ne_true m.in_body (λ h. let bad : false ≡ true = sym (c h) ∙ ap is_empty e in cc)
 
 no_text : (b : Bool) (o : Option Tok) → b ≡ false → region_by b o ≡ InText → ⊥
-no_text true o e h = cc
 no_text false None e h = cc
-no_text false (Some t) e h = cc
+no_text _ _ e h = cc
 
 -- After a line or a body that ends before the end of the text, with no level open, the mode is that of the start of a text, up to a colon.
 pub mode_at_cut : (m : Mode) (k : TokenKind) (n : ℕ) (t : Tok) (b : ℕ) (bs : List ℕ) → BodyHasLevel m → next m (b ∷ bs) ≡ Ok (k, n) → ends_line k ≡ true
@@ -353,22 +342,8 @@ mode_at_cut m k n t b bs clear e ends none = go k ends none (next_fact m (b ∷ 
         let out = not_in_body m clear none in
         let free = ⊎_elim (λ e. e) (λ inner. absurd (no_text m.in_body m.interpolation out inner)) f in
         let x = or_none m.openers m.interpolation free in
-        record {
-          openers = ap (λ os. map (λ (o : OpenDelimiter). o.delimiter) os) x.0;
-          levels = none;
-          in_body = out;
-          interpolation = ap is_some x.1;
-          line_start = refl;
-          after_f = refl;
-        }
+        assumption (ap (λ os. map (λ (o : OpenDelimiter). o.delimiter) os) x.0, ap is_some x.1)
     go kinds.Dedent h none f =
         let x = or_none m.openers m.interpolation f.0 in
-        record {
-          openers = ap (λ os. map (λ (o : OpenDelimiter). o.delimiter) os) x.0;
-          levels = none;
-          in_body = refl;
-          interpolation = ap is_some x.1;
-          line_start = f.1;
-          after_f = refl;
-        }
+        assumption (ap (λ os. map (λ (o : OpenDelimiter). o.delimiter) os) x.0, ap is_some x.1, f)
     go _ h none f = cc

@@ -1,5 +1,6 @@
 -- A cut between tokens is one between the significant ones among them.
-use Rattle.std.proofs.Common.{◌≡◌, ◌⊎◌, ◌∙◌, Bool, true, false, cond, List, [], ◌∷◌, ◌++◌, Option, Some, refl, sym, ap, subst, append-nil}
+use Rattle.std.proofs.Common.{◌≡◌, ◌⊎◌, ◌∙◌, Bool, true, false, cond, List, [], ◌∷◌, ◌++◌, Option, Some, refl, sym, ap, subst, append-nil, arith}
+use Rattle.std.proofs.lemmas.Bool.Decides.{nat_tests}
 use Rattle.std.specs.Prelude.{reverse}
 use Rattle.justfile_vocabulary.specs.declared.token_kind.TokenKind.{TokenKind}
 use Rattle.justfile_vocabulary.specs.declared.token_kind.TokenKind.TheVariants as kinds
@@ -26,14 +27,8 @@ pub significant_append : (ts : List Tok) (t : Tok) (us : List Tok) (glued : Bool
 significant_append [] t us glued e =
     ap (λ b. cond b (significant_from false us) (significant t glued ∷ significant_from true us)) e
     ∙ sym (ap (λ b. cond b [] (significant t glued ∷ []) ++ significant_from true us) e)
-significant_append (a ∷ ts) t us glued e = by (significant_append ts t us false e) (significant_append ts t us true e) (is_whitespace a.kind)
-  where
-    by : significant_from false (ts ++ (t ∷ us)) ≡ significant_from false (ts ++ (t ∷ [])) ++ significant_from true us
-        → significant_from true (ts ++ (t ∷ us)) ≡ significant_from true (ts ++ (t ∷ [])) ++ significant_from true us → (b : Bool)
-        → cond b (significant_from false (ts ++ (t ∷ us))) (significant a glued ∷ significant_from true (ts ++ (t ∷ us)))
-        ≡ cond b (significant_from false (ts ++ (t ∷ []))) (significant a glued ∷ significant_from true (ts ++ (t ∷ []))) ++ significant_from true us
-    by h k true = h
-    by h k false = ap (λ l. significant a glued ∷ l) k
+significant_append (a ∷ ts) t us glued e =
+    grind (arith, nat_tests, significant_append ts t us false e, significant_append ts t us true e)
 
 -- `xs` are `ys` and the token `t`
 record EndsWith (earlier xs ys : Tokens) (t : Tok) : Type 0 where
@@ -103,12 +98,7 @@ no_level (t ∷ earlier) h = by (mode earlier) (no_level earlier) t.kind h
 
 pub next_is : (us : List Tok) (glued : Bool) → next_kind (bare (significant_from glued us)) ≡ next_kind us
 next_is [] glued = refl
-next_is (t ∷ us) glued = by (next_is us false) (is_whitespace t.kind) refl
-  where
-    by : next_kind (bare (significant_from false us)) ≡ next_kind us → (b : Bool) → is_whitespace t.kind ≡ b
-        → next_kind (bare (cond b (significant_from false us) (significant t glued ∷ significant_from true us))) ≡ cond b (next_kind us) (Some t.kind)
-    by h true e = h
-    by h false e = ap (λ c. cond c (next_kind (bare (significant_from true us))) (Some t.kind)) e
+next_is (t ∷ us) glued = grind (arith, nat_tests, next_is us false)
 
 pub cut_here : (front : List Tok) (t : Tok) (later : List Tok) → IsCutAfter t (reverse front) later
     → CutHere (significant_from true later) (behind [] (significant_from false (front ++ (t ∷ []))))

@@ -1,20 +1,18 @@
 -- Docs of items and of others after them: they are taken apart, unless the items end in the doc of the construct that begins the others.
-use Rattle.std.proofs.Common.{◌≡◌, ◌∙◌, ℕ, Bool, true, false, cond, not, ◌&&◌, List, [], ◌∷◌, ◌++◌, Option, Some, None, refl, ap}
+use Rattle.std.proofs.Common.{◌≡◌, ◌∙◌, ℕ, Bool, true, false, cond, not, ◌&&◌, List, [], ◌∷◌, ◌++◌, Option, Some, None, refl, ap, arith}
+use Rattle.std.proofs.lemmas.Bool.Decides.{nat_tests}
 use Rattle.justfile_model.specs.Grammars.Docs.{Before, LineEnd, Nothing, Other, after, can_take_doc, comment_taken, doc_in, doc_or_comment, documented, item_with_doc, redocumented, taken}
 use Rattle.justfile_model.specs.Trees.Tree.{Comment, Construct, Content, Item, Module, Newline, Recipe}
 
 -- the items don't begin with a construct
 abbrev pub BeginsNoConstruct : {A B C S D : Type 0} → List (Item A B C S D) → Type 0
-BeginsNoConstruct [] = Unit {0}
-BeginsNoConstruct (Newline ∷ items) = Unit {0}
-BeginsNoConstruct (Comment text ∷ items) = Unit {0}
 BeginsNoConstruct (Construct attributes content ∷ items) = ⊥
+BeginsNoConstruct _ = Unit {0}
 
 -- a comment with this before it and a line end after it becomes no doc of the items after that
 abbrev pub TakesNone : {A B C S D : Type 0} → Before → List (Item A B C S D) → Type 0
-TakesNone Nothing items = BeginsNoConstruct items
-TakesNone LineEnd items = BeginsNoConstruct items
 TakesNone Other items = Unit {0}
+TakesNone _ items = BeginsNoConstruct items
 
 -- Items and others, with this before them. The items don't end in a comment; and if they end in one and a line end, it becomes no doc of the
 -- others: it isn't at the start of a line, or no construct comes next.
@@ -41,8 +39,7 @@ module _ {A B C S D : Type 0} (has_doc : D → Bool) where
   Refuses (i ∷ items) = (doc : List ℕ) → item_with_doc has_doc doc i ≡ None
 
   never : (b : Bool) (x : Item A B C S D) → cond (b && false) (Some x) None ≡ None
-  never true x = refl
-  never false x = refl
+  never b x = grind (arith, nat_tests)
 
   -- a construct has one doc at most
   no_second : (attributes : D) (doc other : List ℕ) (content : Content A B C S)
@@ -57,17 +54,13 @@ module _ {A B C S D : Type 0} (has_doc : D → Bool) where
   refuses_wanted t doc false attributes content items = λ other. refl
 
   refuses_taken : (t : List ℕ) (i : Item A B C S D) (items : List (Item A B C S D)) (o : Option (List ℕ)) → Refuses (comment_taken has_doc t i items o)
-  refuses_taken t i items None = λ other. refl
-  refuses_taken t Newline items (Some doc) = λ other. refl
-  refuses_taken t (Comment u) items (Some doc) = λ other. refl
   refuses_taken t (Construct attributes content) items (Some doc) = refuses_wanted t doc (can_take_doc has_doc attributes content) attributes content items
+  refuses_taken t _ items None = λ other. refl
+  refuses_taken t _ items (Some doc) = λ other. refl
 
   refuses_comment : (before : Before) (t : List ℕ) (items : List (Item A B C S D)) → Refuses (taken has_doc before (Comment t) items)
-  refuses_comment before t [] = λ other. refl
-  refuses_comment before t (Newline ∷ []) = λ other. refl
   refuses_comment before t (Newline ∷ i ∷ items) = refuses_taken t i items (doc_in before t)
-  refuses_comment before t (Comment u ∷ items) = λ other. refl
-  refuses_comment before t (Construct attributes content ∷ items) = λ other. refl
+  refuses_comment before t _ = λ other. refl
 
   refuses : (before : Before) (items : List (Item A B C S D)) → BeginsNoConstruct items → Refuses (documented has_doc before items)
   refuses before [] h = tt
@@ -81,9 +74,7 @@ module _ {A B C S D : Type 0} (has_doc : D → Bool) where
   abbrev Suffices : List (Item A B C S D) → Type 0
   Suffices [] = ⊥
   Suffices (Newline ∷ []) = ⊥
-  Suffices (Newline ∷ i ∷ items) = Unit {0}
-  Suffices (Comment t ∷ items) = Unit {0}
-  Suffices (Construct attributes content ∷ items) = Unit {0}
+  Suffices _ = Unit {0}
 
   wanted_front : (t doc : List ℕ) (i : Item A B C S D) (items others : List (Item A B C S D)) (o : Option (Item A B C S D))
       → doc_or_comment has_doc t i (items ++ others) o ≡ doc_or_comment has_doc t i items o ++ others
@@ -100,8 +91,7 @@ module _ {A B C S D : Type 0} (has_doc : D → Bool) where
   comment_front before t [] others h = absurd h
   comment_front before t (Newline ∷ []) others h = absurd h
   comment_front before t (Newline ∷ i ∷ items) others h = taken_front t i items others (doc_in before t)
-  comment_front before t (Comment u ∷ items) others h = refl
-  comment_front before t (Construct attributes content ∷ items) others h = refl
+  comment_front before t _ others h = refl
 
   -- before a line end and others that refuse a doc
   comment_by : (t : List ℕ) (others : List (Item A B C S D)) → Refuses others → (before : Before)
@@ -126,22 +116,18 @@ module _ {A B C S D : Type 0} (has_doc : D → Bool) where
   -- ---- what begins documented items
 
   suffices_taken : (t : List ℕ) (i : Item A B C S D) (items : List (Item A B C S D)) (o : Option (List ℕ)) → Suffices (comment_taken has_doc t i items o)
-  suffices_taken t i items None = tt
-  suffices_taken t Newline items (Some doc) = tt
-  suffices_taken t (Comment u) items (Some doc) = tt
   suffices_taken t (Construct attributes content) items (Some doc) = by (can_take_doc has_doc attributes content)
     where
       by : (b : Bool)
           → Suffices (doc_or_comment has_doc t (Construct attributes content) items (cond b (Some (Construct attributes (redocumented (Some doc) content))) None))
       by true = tt
       by false = tt
+  suffices_taken t _ items None = tt
+  suffices_taken t _ items (Some doc) = tt
 
   suffices_comment : (before : Before) (t : List ℕ) (items : List (Item A B C S D)) → Suffices (taken has_doc before (Comment t) items)
-  suffices_comment before t [] = tt
-  suffices_comment before t (Newline ∷ []) = tt
   suffices_comment before t (Newline ∷ i ∷ items) = suffices_taken t i items (doc_in before t)
-  suffices_comment before t (Comment u ∷ items) = tt
-  suffices_comment before t (Construct attributes content ∷ items) = tt
+  suffices_comment before t _ = tt
 
   suffices_after : (i : Item A B C S D) (items : List (Item A B C S D)) → Suffices (Newline ∷ documented has_doc LineEnd (i ∷ items))
   suffices_after Newline items = tt

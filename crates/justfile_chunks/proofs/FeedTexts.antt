@@ -4,6 +4,7 @@ use Rattle.std.specs.List.{prefix_len}
 use Rattle.std.proofs.Math.Seq.{get_or-append_seam}
 use Rattle.std.proofs.Math.Bool.{and-false}
 use Rattle.std.proofs.lemmas.Bool.{cases_lt}
+use Rattle.std.proofs.lemmas.Bool.Decides.{nat_tests}
 use Rattle.justfile_vocabulary.specs.ByteClass.{class_of}
 use Rattle.justfile_token.specs.declared.string_kind.StringDelimiter.{StringDelimiter}
 use Rattle.justfile_token.specs.declared.string_kind.StringDelimiter.TheVariants as delimiters
@@ -21,43 +22,33 @@ head_same [] v x = refl
 head_same (b ∷ w) v x = refl
 
 pub line_end_same : (w v x : List ℕ) → is_line_end (w ++ (10 ∷ v)) ≡ is_line_end (w ++ (10 ∷ x))
-line_end_same [] v x = refl
 line_end_same (a ∷ []) v x = refl
-line_end_same (a ∷ b ∷ w) v x = refl
+line_end_same _ v x = refl
 
 pub start_same : (w v x : List ℕ) → is_interpolation_start (w ++ (10 ∷ v)) ≡ is_interpolation_start (w ++ (10 ∷ x))
-start_same [] v x = refl
 start_same (a ∷ []) v x = refl
-start_same (a ∷ b ∷ w) v x = refl
+start_same _ v x = refl
 
 pub end_same : (w v x : List ℕ) → is_interpolation_end (w ++ (10 ∷ v)) ≡ is_interpolation_end (w ++ (10 ∷ x))
-end_same [] v x = refl
 end_same (a ∷ []) v x = refl
-end_same (a ∷ b ∷ w) v x = refl
+end_same _ v x = refl
 
 not_both : (p r s : Bool) → ((p && false) && r) ≡ ((p && false) && s)
-not_both true r s = refl
-not_both false r s = refl
+not_both p r s = grind (arith, nat_tests)
 
 escape_same : (w v x : List ℕ) → is_interpolation_escape (w ++ (10 ∷ v)) ≡ is_interpolation_escape (w ++ (10 ∷ x))
-escape_same [] v x = refl
 escape_same (a ∷ []) v x = not_both (eqb a 123) _ _
-escape_same (a ∷ b ∷ []) v x = refl
 escape_same (a ∷ b ∷ c ∷ []) v x = refl
-escape_same (a ∷ b ∷ c ∷ d ∷ w) v x = refl
+escape_same _ v x = refl
 
 delimiter_same : (d : StringDelimiter) (i : Bool) (w v x : List ℕ) → is_delimiter (record { delimiter = d; indented = i }) (w ++ (10 ∷ v))
     ≡ is_delimiter (record { delimiter = d; indented = i }) (w ++ (10 ∷ x))
-delimiter_same d false [] v x = refl
-delimiter_same d false (a ∷ w) v x = refl
-delimiter_same delimiters.Backtick true [] v x = refl
-delimiter_same delimiters.QuoteDouble true [] v x = refl
-delimiter_same delimiters.QuoteSingle true [] v x = refl
 delimiter_same delimiters.Backtick true (a ∷ []) v x = not_both (eqb a 96) _ _
 delimiter_same delimiters.QuoteDouble true (a ∷ []) v x = not_both (eqb a 34) _ _
 delimiter_same delimiters.QuoteSingle true (a ∷ []) v x = not_both (eqb a 39) _ _
+delimiter_same d false (a ∷ w) v x = refl
 delimiter_same d true (a ∷ b ∷ []) v x = refl
-delimiter_same d true (a ∷ b ∷ c ∷ w) v x = refl
+delimiter_same d _ _ v x = refl
 
 -- ---- raw text
 
@@ -77,14 +68,10 @@ ends_same (Literal k format) w v x = λ i. delimiter_same k.delimiter k.indented
 
 one_step : (t u : Bool) (a b c d n : ℕ) → (a ≤ n → c ≡ a) → (b ≤ n → d ≡ b) → cond t (suc a) (cond u 0 (suc b)) ≤ suc n
     → cond t (suc c) (cond u 0 (suc d)) ≡ cond t (suc a) (cond u 0 (suc b))
-one_step true u a b c d n f g h = ap suc (f (omega arith))
-one_step false true a b c d n f g h = refl
-one_step false false a b c d n f g h = ap suc (g (omega arith))
+one_step t u a b c d n f g h = grind (arith, nat_tests, f, g)
 
 no_step : (t u : Bool) (a b c d : ℕ) → cond t (suc a) (cond u 0 (suc b)) ≤ 0 → cond t (suc c) (cond u 0 (suc d)) ≡ cond t (suc a) (cond u 0 (suc b))
-no_step true u a b c d h = absurd (omega arith)
-no_step false true a b c d h = refl
-no_step false false a b c d h = absurd (omega arith)
+no_step t u a b c d h = grind (arith, nat_tests)
 
 module _ (s : RawText) where
   abbrev scanned : ℕ → List ℕ → ℕ
@@ -141,8 +128,4 @@ module _ (p : ℕ → Bool) (stops : p 10 ≡ false) where
 
   pub run_within : (w v : List ℕ) → prefix_len p (w ++ (10 ∷ v)) ≤ length w
   run_within [] v = let e : cond (p 10) (1 + prefix_len p v) 0 ≡ 0 = ap (λ t. cond t (1 + prefix_len p v) 0) stops in omega (arith, e)
-  run_within (b ∷ w) v = by (p b) (run_within w v)
-    where
-      by : (t : Bool) → prefix_len p (w ++ (10 ∷ v)) ≤ length w → cond t (1 + prefix_len p (w ++ (10 ∷ v))) 0 ≤ suc (length w)
-      by true h = omega arith
-      by false h = omega arith
+  run_within (b ∷ w) v = let h = run_within w v in grind (arith, nat_tests, h)

@@ -140,14 +140,7 @@ module _ (offset line : ℕ) (d : ℕ) (dark : IsDark d) (v x : List ℕ) (front
       colons later.ends later.empty later.run text (0 + length (text_of front)))
     where
       alike : {m n : Mode} → SameMode m start_mode → SameMode n start_mode → SameMode m n
-      alike h k = record {
-        openers = h.openers ∙ sym k.openers;
-        levels = h.levels ∙ sym k.levels;
-        in_body = h.in_body ∙ sym k.in_body;
-        interpolation = h.interpolation ∙ sym k.interpolation;
-        line_start = h.line_start ∙ sym k.line_start;
-        after_f = h.after_f ∙ sym k.after_f;
-      }
+      alike h k = search (h, k)
 
   whole_lexes : LexesIn text 0 start_mode text (signs front ++ ms)
   whole_lexes = front_lexes text (d ∷ x) ms front start_mode 0 (runs_joined d dark v x front start_mode utf8 (inr fed) no_eof run) no_eof front_stands rest_lexes

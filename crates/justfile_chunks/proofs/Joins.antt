@@ -1,8 +1,9 @@
 -- Items before a cut and items after it derive together, and items with a cut derive apart.
-use Rattle.std.proofs.Common.{◌≡◌, ◌⊎◌, ◌∙◌, ℕ, cond, List, [], ◌∷◌, ◌++◌, Option, Some, refl, sym, ap}
+use Rattle.std.proofs.Common.{◌≡◌, ◌⊎◌, ◌∙◌, ℕ, true, false, cond, List, [], ◌∷◌, ◌++◌, Option, Some, inl, inr, refl, sym, ap, subst, ⊎_elim}
 use Rattle.std.specs.Str.{trim_end}
+use Rattle.justfile_vocabulary.specs.declared.token_kind.TokenKind.{TokenKind}
 use Rattle.justfile_vocabulary.specs.declared.token_kind.TokenKind.TheVariants as kinds
-use Rattle.justfile_model.specs.Grammars.Docs.{Before, LineEnd, Nothing, Other}
+use Rattle.justfile_model.specs.Grammars.Docs.{Before, LineEnd, Other}
 use Rattle.justfile_model.specs.Grammars.Expressions.{Tokens, IsKind}
 use Rattle.justfile_model.specs.Grammars.Features.{ConstructFeatures}
 use Rattle.justfile_model.specs.Grammars.Grammar as g
@@ -10,6 +11,7 @@ use Rattle.justfile_model.specs.Grammars.Grammar.{File, ItemRest, Items, TokenPr
 use Rattle.justfile_model.specs.Lexing.SignificantTokens.{SignificantToken, is_whitespace}
 use Rattle.justfile_model.specs.Trees.Tree as tree
 use Rattle.justfile_model.specs.Trees.Tree.{Construct, WrittenItem}
+use Rattle.justfile_model.proofs.Lists.Binds.{some_back}
 use Rattle.justfile_chunks.specs.Chunks.{ends_line, line_kind, next_kind}
 use Rattle.justfile_chunks.proofs.AgainAttributes as again_attributes
 use Rattle.justfile_chunks.proofs.AgainItems as again_items
@@ -18,12 +20,30 @@ use Rattle.justfile_chunks.proofs.DocsAppend.{AreApart, BeginsNoConstruct, Takes
 use Rattle.justfile_chunks.proofs.Over.{Ahead, Over, any_of, is_any, is_quiet, not_name, one, past, same, step}
 use Rattle.justfile_chunks.proofs.Passes.{At, AtStart, CutAfter, CutHere, FirstQuiet, LastOpen, bare, begins_line, clash, first_attributes, first_block, first_on_line, here, later, later_of, mark_start, no_cut, none_left, onward, past_line, past_recipe, starts}
 
+quiet_next : (k : TokenKind) (o : Option TokenKind) → is_quiet k ≡ true → cond (is_whitespace k) o (Some k) ≡ Some k
+quiet_next kinds.Whitespace o q = cc
+quiet_next _ o q = refl
+
+not_quiet : (us : Tokens) → (next_kind (bare us) ≡ Some kinds.Comment) ⊎ (next_kind (bare us) ≡ Some kinds.Eol) → FirstQuiet us → ⊥
+not_quiet [] c q = q
+not_quiet (t ∷ us) c q = ⊎_elim (λ e. loud kinds.Comment refl e) (λ e. loud kinds.Eol refl e) c
+  where
+    loud : (k : TokenKind) → is_quiet k ≡ false → next_kind (bare (t ∷ us)) ≡ Some k → ⊥
+    loud k l e = clash (ap is_quiet (some_back t.tok.kind k (sym (quiet_next t.tok.kind (next_kind (bare us)) q) ∙ e)) ∙ l) q
+
 module _ {A B C S : Type 0} (projection : TokenProjection A B C S) (MayEnter : ℕ → Option SignificantToken → Type 0) where
   abbrev ManyItems : Type 0
   ManyItems = List (WrittenItem A B C S)
 
   abbrev ManyFeatures : Type 0
   ManyFeatures = List (ConstructFeatures B)
+
+  -- items whose first token is no token of a construct begin with none
+  begins_none : {items : ManyItems} {fs : ManyFeatures} {us : Tokens} → Items projection MayEnter items fs us → (FirstQuiet us → ⊥)
+      → BeginsNoConstruct items
+  begins_none (g.on_line a o r) n = absurd (n (first_attributes projection MayEnter a (first_on_line projection MayEnter o)))
+  begins_none (g.block a b more) n = absurd (n (first_attributes projection MayEnter a (first_block projection MayEnter b)))
+  begins_none _ n = tt
 
   -- ---- the items before a cut, which end at this token, and those after it
 
@@ -35,124 +55,35 @@ module _ {A B C S : Type 0} (projection : TokenProjection A B C S) (MayEnter : �
     no_indent earlier k e = let bad : kinds.Eof ≡ kinds.Indent = sym is_eof ∙ e in cc
 
     module _ (js : ManyItems) (gs : ManyFeatures) (second : Items projection MayEnter js gs us) where
-      -- these items, and then the others
-      pub record Joined (R : ManyItems → ManyFeatures → Tokens → Type 0) (items : ManyItems) (fs : ManyFeatures) (part : Tokens) : Type 0 where
+      -- These items, and then the others. No item means that the cut is here. The items end in a line end, and no comment of theirs is a doc of the others.
+      pub record Joined (R : ManyItems → ManyFeatures → Tokens → Type 0) (earlier : Tokens) (items : ManyItems) (fs : ManyFeatures) (part : Tokens) : Type 0 where
         pub whole : Tokens
         pub derives : R (items ++ js) (fs ++ gs) whole
         pub over : Over is_any (eof ∷ []) us part whole
+        pub cut : items ≡ [] → CutHere us earlier
+        pub ends : (before : Before) → (items ≡ [] → before ≡ LineEnd) → before_after before items ≡ LineEnd
+        pub apart : (before : Before) → AreApart before items js
 
-      record JoinedRest (R : ManyItems → ManyFeatures → Tokens → Type 0) (items : ManyItems) (fs : ManyFeatures) (part : Tokens) : Type 0 where
-        joined : Joined R items fs part
-        ahead : Ahead part joined.whole
+      -- the same within a line, after an item, or after a comment that begins the line or comes after an item
+      record JoinedRest (R : ManyItems → ManyFeatures → Tokens → Type 0) (earlier : Tokens) (items : ManyItems) (fs : ManyFeatures) (part : Tokens) : Type 0 where
+        whole : Tokens
+        derives : R (items ++ js) (fs ++ gs) whole
+        over : Over is_any (eof ∷ []) us part whole
+        ahead : Ahead part whole
+        ends : before_after Other items ≡ LineEnd
+        apart : AreApart Other items js
+        after_comment : (before : Before) (text : List ℕ) → (line_kind (bare earlier) ≡ Some kinds.Comment) ⊎ (before ≡ Other)
+            → AreApart before (tree.Comment text ∷ items) js
 
-      mutual
-        pub items_joined : {items : ManyItems} {fs : ManyFeatures} {part : Tokens} → Items projection MayEnter items fs part → (earlier : Tokens)
-            → Before' earlier part
-            → AtStart earlier → Joined (Items projection MayEnter) items fs part
-        items_joined (g.end kind) earlier (here k) s = record { whole = us; derives = second; over = same }
-        items_joined (g.end kind) earlier (later at) s = elim at [ ]
-        items_joined (g.blank kind more) earlier (here k) s = absurd (let bad : kinds.Eof ≡ kinds.Eol = sym is_eof ∙ kind in cc)
-        items_joined (g.blank {token = t} kind more) earlier (later at) s =
-            let x = items_joined more (t ∷ earlier) at (starts t earlier (ap ends_line kind)) in
-            record { whole = t ∷ x.whole; derives = g.blank kind x.derives; over = step refl x.over }
-        items_joined (g.comment kind r) earlier (here k) s = absurd (let bad : kinds.Eof ≡ kinds.Comment = sym is_eof ∙ kind in cc)
-        items_joined (g.comment {token = t} kind r) earlier (later at) s =
-            let x = rest_joined r (t ∷ earlier) (ap ends_line kind) at in
-            record { whole = t ∷ x.joined.whole; derives = g.comment kind x.joined.derives; over = step refl x.joined.over }
-        items_joined (g.on_line a o r) earlier at s =
-            let l = later_of at (ap is_quiet is_eof) (first_attributes projection MayEnter a (first_on_line projection MayEnter o)) in
-            let p = (past_line us eof [] projection MayEnter a o r earlier s at l).1 in
-            let x = rest_joined r p.earlier p.unended p.at in
-            let y = again_items.on_line projection MayEnter o x.ahead in
-            let z = again_attributes.attribute_lines projection.leaf projection.position MayEnter a y.ahead in
-            record { whole = z.after; derives = g.on_line z.derives y.derives x.joined.derives; over = past (any_of z.over) (past (any_of y.over) x.joined.over) }
-        items_joined (g.block a b more) earlier at s =
-            let l = later_of at (ap is_quiet is_eof) (first_attributes projection MayEnter a (first_block projection MayEnter b)) in
-            let p = past_recipe us eof [] no_indent projection MayEnter a b earlier s at l in
-            let x = items_joined more p.earlier p.at p.start in
-            let y = again_items.block projection MayEnter b x.whole in
-            let z = again_attributes.attribute_lines projection.leaf projection.position MayEnter a y.ahead in
-            record { whole = z.after; derives = g.block z.derives y.derives x.derives; over = past (any_of z.over) (past y.over x.over) }
-
-        rest_joined : {items : ManyItems} {fs : ManyFeatures} {part : Tokens} → ItemRest projection MayEnter items fs part → (earlier : Tokens)
-            → LastOpen earlier
-            → Before' earlier part → JoinedRest (ItemRest projection MayEnter) items fs part
-        rest_joined (g.trailing {token = t} kind e) earlier o at =
-            let x = end_joined e (t ∷ earlier) (ap ends_line kind) (onward at (no_cut us earlier o)) in
-            record {
-              joined = record { whole = t ∷ x.joined.whole; derives = g.trailing kind x.joined.derives; over = step refl x.joined.over };
-              ahead = one (not_name t (ap is_quiet kind));
-            }
-        rest_joined (g.bare e) earlier o at =
-            let x = end_joined e earlier o at in
-            record { joined = record { whole = x.joined.whole; derives = g.bare x.joined.derives; over = x.joined.over }; ahead = x.ahead }
-
-        end_joined : {items : ManyItems} {fs : ManyFeatures} {part : Tokens} → g.LineEnd projection MayEnter items fs part → (earlier : Tokens)
-            → LastOpen earlier
-            → Before' earlier part → JoinedRest (g.LineEnd projection MayEnter) items fs part
-        end_joined (g.line_end {token = t} kind more) earlier o at =
-            let x = items_joined more (t ∷ earlier) (onward at (no_cut us earlier o)) (starts t earlier (ap ends_line kind)) in
-            record {
-              joined = record { whole = t ∷ x.whole; derives = g.line_end kind x.derives; over = step refl x.over };
-              ahead = one (not_name t (ap is_quiet kind));
-            }
-        end_joined (g.file_end kind) earlier o at = absurd (none_left (onward at (no_cut us earlier o)))
-
-      pub file_joined : {items : ManyItems} {fs : ManyFeatures} {part : Tokens} → File projection MayEnter items fs part → Before' [] part
-          → Joined (File projection MayEnter) items fs part
-      file_joined (g.with_byte_order_mark kind more) (here k) = absurd k
-      file_joined (g.with_byte_order_mark {token = t} kind more) (later at) =
-          let x = items_joined more (t ∷ []) at (mark_start t kind) in
-          record { whole = t ∷ x.whole; derives = g.with_byte_order_mark kind x.derives; over = step refl x.over }
-      file_joined (g.without_byte_order_mark more) at =
-          let x = items_joined more [] at refl in
-          record { whole = x.whole; derives = g.without_byte_order_mark x.derives; over = x.over }
-
-    -- ---- docs
-
-    mutual
-      items_end : {items : ManyItems} {fs : ManyFeatures} {part : Tokens} → Items projection MayEnter items fs part → (earlier : Tokens) → Before' earlier part
-          → AtStart earlier → (before : Before) → (CutHere us earlier → before ≡ LineEnd) → before_after before items ≡ LineEnd
-      items_end (g.end kind) earlier (here k) s before n = n k
-      items_end (g.end kind) earlier (later at) s before n = elim at [ ]
-      items_end (g.blank kind more) earlier (here k) s before n = absurd (let bad : kinds.Eof ≡ kinds.Eol = sym is_eof ∙ kind in cc)
-      items_end (g.blank {token = t} kind more) earlier (later at) s before n =
-          items_end more (t ∷ earlier) at (starts t earlier (ap ends_line kind)) LineEnd (λ k. refl)
-      items_end (g.comment kind r) earlier (here k) s before n = absurd (let bad : kinds.Eof ≡ kinds.Comment = sym is_eof ∙ kind in cc)
-      items_end (g.comment {token = t} kind r) earlier (later at) s before n = rest_end r (t ∷ earlier) (ap ends_line kind) at
-      items_end (g.on_line a o r) earlier at s before n =
-          let l = later_of at (ap is_quiet is_eof) (first_attributes projection MayEnter a (first_on_line projection MayEnter o)) in
-          let p = (past_line us eof [] projection MayEnter a o r earlier s at l).1 in
-          rest_end r p.earlier p.unended p.at
-      items_end (g.block a b more) earlier at s before n =
-          let l = later_of at (ap is_quiet is_eof) (first_attributes projection MayEnter a (first_block projection MayEnter b)) in
-          let p = past_recipe us eof [] no_indent projection MayEnter a b earlier s at l in
-          items_end more p.earlier p.at p.start LineEnd (λ k. refl)
-
-      rest_end : {items : ManyItems} {fs : ManyFeatures} {part : Tokens} → ItemRest projection MayEnter items fs part → (earlier : Tokens) → LastOpen earlier
-          → Before' earlier part → before_after Other items ≡ LineEnd
-      rest_end (g.trailing {token = t} kind e) earlier o at = end_end e (t ∷ earlier) (ap ends_line kind) (onward at (no_cut us earlier o))
-      rest_end (g.bare e) earlier o at = end_end e earlier o at
-
-      end_end : {items : ManyItems} {fs : ManyFeatures} {part : Tokens} → g.LineEnd projection MayEnter items fs part → (earlier : Tokens) → LastOpen earlier
-          → Before' earlier part → before_after Other items ≡ LineEnd
-      end_end (g.line_end {token = t} kind more) earlier o at =
-          items_end more (t ∷ earlier) (onward at (no_cut us earlier o)) (starts t earlier (ap ends_line kind)) LineEnd (λ k. refl)
-      end_end (g.file_end kind) earlier o at = absurd (none_left (onward at (no_cut us earlier o)))
-
-    -- the items before a cut end in a line end
-    pub file_end : {items : ManyItems} {fs : ManyFeatures} {part : Tokens} → File projection MayEnter items fs part → Before' [] part
-        → before_after Nothing items ≡ LineEnd
-    file_end (g.with_byte_order_mark kind more) (here k) = absurd k
-    file_end (g.with_byte_order_mark {token = t} kind more) (later at) =
-        items_end more (t ∷ []) at (mark_start t kind) Nothing (λ (k : CutAfter us t []). absurd (clash (ap ends_line kind) k.ends))
-    file_end (g.without_byte_order_mark more) at = items_end more [] at refl Nothing (λ k. absurd k)
-
-    module _ (js : ManyItems) (begins : (next_kind (bare us) ≡ Some kinds.Comment) ⊎ (next_kind (bare us) ≡ Some kinds.Eol) → BeginsNoConstruct js) where
       takes_none : (before : Before) → BeginsNoConstruct js → TakesNone before js
-      takes_none Nothing h = h
-      takes_none LineEnd h = h
       takes_none Other h = tt
+      takes_none _ h = h
+
+      -- after the line of a comment without an item no construct comes next
+      no_doc : (t : SignificantToken) (earlier : Tokens) (before : Before) → (line_kind (bare earlier) ≡ Some kinds.Comment) ⊎ (before ≡ Other)
+          → CutAfter us t earlier → TakesNone before js
+      no_doc t earlier before (inl line) k = takes_none before (begins_none second (not_quiet us (k.no_doc line)))
+      no_doc t earlier before (inr e) k = subst (λ b. TakesNone b js) (sym e) tt
 
       -- a comment at the end of a line, before items
       comment_apart : (before : Before) (text : List ℕ) (items : ManyItems) → AreApart LineEnd items js → (items ≡ [] → TakesNone before js)
@@ -160,71 +91,115 @@ module _ {A B C S : Type 0} (projection : TokenProjection A B C S) (MayEnter : �
       comment_apart before text [] h n = n refl
       comment_apart before text (i ∷ items) h n = h
 
-      -- after the line of a comment without an item no construct comes next
-      last_doc : {items : ManyItems} {fs : ManyFeatures} {part : Tokens} → Items projection MayEnter items fs part → (t : SignificantToken) (earlier : Tokens)
-          → Before' (t ∷ earlier) part → line_kind (bare earlier) ≡ Some kinds.Comment → items ≡ [] → BeginsNoConstruct js
-      last_doc (g.end kind) t earlier (here k) line e = begins (k.no_doc line)
-      last_doc (g.end kind) t earlier (later at) line e = elim at [ ]
-      last_doc (g.blank kind more) t earlier at line e = cc
-      last_doc (g.comment kind r) t earlier at line e = cc
-      last_doc (g.on_line a o r) t earlier at line e = cc
-      last_doc (g.block a b more) t earlier at line e = cc
-
       mutual
-        pub items_apart : {items : ManyItems} {fs : ManyFeatures} {part : Tokens} → Items projection MayEnter items fs part → (earlier : Tokens)
+        pub items_joined : {items : ManyItems} {fs : ManyFeatures} {part : Tokens} → Items projection MayEnter items fs part → (earlier : Tokens)
             → Before' earlier part
-            → AtStart earlier → (before : Before) → AreApart before items js
-        items_apart (g.end kind) earlier at s before = tt
-        items_apart (g.blank kind more) earlier (here k) s before = absurd (let bad : kinds.Eof ≡ kinds.Eol = sym is_eof ∙ kind in cc)
-        items_apart (g.blank {token = t} kind more) earlier (later at) s before =
-            items_apart more (t ∷ earlier) at (starts t earlier (ap ends_line kind)) LineEnd
-        items_apart (g.comment kind r) earlier (here k) s before = absurd (let bad : kinds.Eof ≡ kinds.Comment = sym is_eof ∙ kind in cc)
-        items_apart (g.comment {token = t} kind r) earlier (later at) s before =
-            comment_rest r before (trim_end t.tok.lexeme) (t ∷ earlier) (ap ends_line kind) at (begins_line t earlier kinds.Comment kind refl refl s)
-        items_apart (g.on_line a o r) earlier at s before =
+            → AtStart earlier → Joined (Items projection MayEnter) earlier items fs part
+        items_joined (g.end kind) earlier (here k) s =
+            record { whole = us; derives = second; over = same; cut = λ e. k; ends = λ before n. n refl; apart = λ before. tt }
+        items_joined (g.end kind) earlier (later at) s = elim at [ ]
+        items_joined (g.blank kind more) earlier (here k) s = absurd (let bad : kinds.Eof ≡ kinds.Eol = sym is_eof ∙ kind in cc)
+        items_joined (g.blank {token = t} kind more) earlier (later at) s =
+            let x = items_joined more (t ∷ earlier) at (starts t earlier (ap ends_line kind)) in
+            record {
+              whole = t ∷ x.whole;
+              derives = g.blank kind x.derives;
+              over = step refl x.over;
+              cut = λ e. cc;
+              ends = λ before n. x.ends LineEnd (λ e. refl);
+              apart = λ before. x.apart LineEnd;
+            }
+        items_joined (g.comment kind r) earlier (here k) s = absurd (let bad : kinds.Eof ≡ kinds.Comment = sym is_eof ∙ kind in cc)
+        items_joined (g.comment {token = t} kind r) earlier (later at) s =
+            let x = rest_joined r (t ∷ earlier) (ap ends_line kind) at in
+            record {
+              whole = t ∷ x.whole;
+              derives = g.comment kind x.derives;
+              over = step refl x.over;
+              cut = λ e. cc;
+              ends = λ before n. x.ends;
+              apart = λ before. x.after_comment before (trim_end t.tok.lexeme) (inl (begins_line t earlier kinds.Comment kind refl refl s));
+            }
+        items_joined (g.on_line a o r) earlier at s =
             let l = later_of at (ap is_quiet is_eof) (first_attributes projection MayEnter a (first_on_line projection MayEnter o)) in
             let p = (past_line us eof [] projection MayEnter a o r earlier s at l).1 in
-            rest_apart r p.earlier p.unended p.at
-        items_apart (g.block a b more) earlier at s before =
+            let x = rest_joined r p.earlier p.unended p.at in
+            let y = again_items.on_line projection MayEnter o x.ahead in
+            let z = again_attributes.attribute_lines projection.leaf projection.position MayEnter a y.ahead in
+            record {
+              whole = z.after;
+              derives = g.on_line z.derives y.derives x.derives;
+              over = past (any_of z.over) (past (any_of y.over) x.over);
+              cut = λ e. cc;
+              ends = λ before n. x.ends;
+              apart = λ before. x.apart;
+            }
+        items_joined (g.block a b more) earlier at s =
             let l = later_of at (ap is_quiet is_eof) (first_attributes projection MayEnter a (first_block projection MayEnter b)) in
             let p = past_recipe us eof [] no_indent projection MayEnter a b earlier s at l in
-            items_apart more p.earlier p.at p.start LineEnd
+            let x = items_joined more p.earlier p.at p.start in
+            let y = again_items.block projection MayEnter b x.whole in
+            let z = again_attributes.attribute_lines projection.leaf projection.position MayEnter a y.ahead in
+            record {
+              whole = z.after;
+              derives = g.block z.derives y.derives x.derives;
+              over = past (any_of z.over) (past y.over x.over);
+              cut = λ e. cc;
+              ends = λ before n. x.ends LineEnd (λ e. refl);
+              apart = λ before. x.apart LineEnd;
+            }
 
-        -- the rest of a line after a construct
-        rest_apart : {items : ManyItems} {fs : ManyFeatures} {part : Tokens} → ItemRest projection MayEnter items fs part → (earlier : Tokens)
+        rest_joined : {items : ManyItems} {fs : ManyFeatures} {part : Tokens} → ItemRest projection MayEnter items fs part → (earlier : Tokens)
             → LastOpen earlier
-            → Before' earlier part → AreApart Other items js
-        rest_apart (g.trailing kind e) earlier o at = trailing_apart kind e earlier o at
-        rest_apart (g.bare (g.line_end {token = t} kind more)) earlier o at =
-            items_apart more (t ∷ earlier) (onward at (no_cut us earlier o)) (starts t earlier (ap ends_line kind)) LineEnd
-        rest_apart (g.bare (g.file_end kind)) earlier o at = absurd (none_left (onward at (no_cut us earlier o)))
+            → Before' earlier part → JoinedRest (ItemRest projection MayEnter) earlier items fs part
+        rest_joined (g.trailing {token = t} kind e) earlier o at =
+            let x = end_joined e (t ∷ earlier) (ap ends_line kind) (onward at (no_cut us earlier o)) in
+            let apart = x.after_comment Other (trim_end t.tok.lexeme) (inr refl) in
+            record {
+              whole = t ∷ x.whole;
+              derives = g.trailing kind x.derives;
+              over = step refl x.over;
+              ahead = one (not_name t (ap is_quiet kind));
+              ends = x.ends;
+              apart = apart;
+              after_comment = λ before text h. apart;
+            }
+        rest_joined (g.bare e) earlier o at =
+            let x = end_joined e earlier o at in
+            search (g.bare x.derives, x)
 
-        -- a comment at the end of a line
-        trailing_apart : {items : ManyItems} {fs : ManyFeatures} {t : SignificantToken} {part : Tokens} → IsKind kinds.Comment t
-            → g.LineEnd projection MayEnter items fs part → (earlier : Tokens) → LastOpen earlier → Before' earlier (t ∷ part)
-            → AreApart Other (tree.Comment (trim_end t.tok.lexeme) ∷ items) js
-        trailing_apart {t = t} kind (g.line_end {items = items} {token = u} kind2 more) earlier o at =
-            comment_apart Other (trim_end t.tok.lexeme) items
-            (items_apart more (u ∷ t ∷ earlier) (onward (onward at (no_cut us earlier o)) (no_cut us (t ∷ earlier) (ap ends_line kind)))
-            (starts u (t ∷ earlier) (ap ends_line kind2)) LineEnd) (λ e. tt)
-        trailing_apart {t = t} kind (g.file_end kind2) earlier o at =
-            absurd (none_left (onward (onward at (no_cut us earlier o)) (no_cut us (t ∷ earlier) (ap ends_line kind))))
+        end_joined : {items : ManyItems} {fs : ManyFeatures} {part : Tokens} → g.LineEnd projection MayEnter items fs part → (earlier : Tokens)
+            → LastOpen earlier
+            → Before' earlier part → JoinedRest (g.LineEnd projection MayEnter) earlier items fs part
+        end_joined (g.line_end {items = items} {token = t} kind more) earlier o at =
+            let x = items_joined more (t ∷ earlier) (onward at (no_cut us earlier o)) (starts t earlier (ap ends_line kind)) in
+            record {
+              whole = t ∷ x.whole;
+              derives = g.line_end kind x.derives;
+              over = step refl x.over;
+              ahead = one (not_name t (ap is_quiet kind));
+              ends = x.ends LineEnd (λ e. refl);
+              apart = x.apart LineEnd;
+              after_comment = λ before text h. comment_apart before text items (x.apart LineEnd) (λ e. no_doc t earlier before h (x.cut e));
+            }
+        end_joined (g.file_end kind) earlier o at = absurd (none_left (onward at (no_cut us earlier o)))
 
-        -- the rest of a line after a comment that begins it
-        comment_rest : {items : ManyItems} {fs : ManyFeatures} {part : Tokens} → ItemRest projection MayEnter items fs part → (before : Before) (text : List ℕ)
-            (earlier : Tokens) → LastOpen earlier → Before' earlier part → line_kind (bare earlier) ≡ Some kinds.Comment → AreApart before (tree.Comment text ∷ items) js
-        comment_rest (g.trailing kind e) before text earlier o at line = trailing_apart kind e earlier o at
-        comment_rest (g.bare (g.line_end {items = items} {token = t} kind more)) before text earlier o at line =
-            let on = onward at (no_cut us earlier o) in
-            comment_apart before text items (items_apart more (t ∷ earlier) on (starts t earlier (ap ends_line kind)) LineEnd)
-            (λ e. takes_none before (last_doc more t earlier on line e))
-        comment_rest (g.bare (g.file_end kind)) before text earlier o at line = absurd (none_left (onward at (no_cut us earlier o)))
-
-      pub file_apart : {items : ManyItems} {fs : ManyFeatures} {part : Tokens} → File projection MayEnter items fs part → Before' [] part
-          → AreApart Nothing items js
-      file_apart (g.with_byte_order_mark kind more) (here k) = absurd k
-      file_apart (g.with_byte_order_mark {token = t} kind more) (later at) = items_apart more (t ∷ []) at (mark_start t kind) Nothing
-      file_apart (g.without_byte_order_mark more) at = items_apart more [] at refl Nothing
+      pub file_joined : {items : ManyItems} {fs : ManyFeatures} {part : Tokens} → File projection MayEnter items fs part → Before' [] part
+          → Joined (File projection MayEnter) [] items fs part
+      file_joined (g.with_byte_order_mark kind more) (here k) = absurd k
+      file_joined (g.with_byte_order_mark {token = t} kind more) (later at) =
+          let x = items_joined more (t ∷ []) at (mark_start t kind) in
+          record {
+            whole = t ∷ x.whole;
+            derives = g.with_byte_order_mark kind x.derives;
+            over = step refl x.over;
+            cut = λ e. clash (ap ends_line kind) (x.cut e).ends;
+            ends = x.ends;
+            apart = x.apart;
+          }
+      file_joined (g.without_byte_order_mark more) at =
+          let x = items_joined more [] at refl in
+          record { whole = x.whole; derives = g.without_byte_order_mark x.derives; over = x.over; cut = x.cut; ends = x.ends; apart = x.apart }
 
   -- ---- items with a cut
 
@@ -359,12 +334,3 @@ module _ {A B C S : Type 0} (projection : TokenProjection A B C S) (MayEnter : �
       absurd (clash (ap is_quiet e) (first_attributes projection MayEnter a (first_on_line projection MayEnter o)))
   after_end (g.without_byte_order_mark (g.block a b more)) e =
       absurd (clash (ap is_quiet e) (first_attributes projection MayEnter a (first_block projection MayEnter b)))
-
-  -- items whose first token is no token of a construct begin with none
-  pub begins_none : {items : ManyItems} {fs : ManyFeatures} {us : Tokens} → Items projection MayEnter items fs us → (FirstQuiet us → ⊥)
-      → BeginsNoConstruct items
-  begins_none (g.end kind) n = tt
-  begins_none (g.blank kind more) n = tt
-  begins_none (g.comment kind r) n = tt
-  begins_none (g.on_line a o r) n = absurd (n (first_attributes projection MayEnter a (first_on_line projection MayEnter o)))
-  begins_none (g.block a b more) n = absurd (n (first_attributes projection MayEnter a (first_block projection MayEnter b)))

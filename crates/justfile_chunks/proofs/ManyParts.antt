@@ -16,7 +16,7 @@ use Rattle.justfile_round_trip.specs.RoundTrip.{TextDerives}
 use Rattle.justfile_chunks.specs.Chunks.{joined, moved, moved_item, text_of}
 use Rattle.justfile_chunks.proofs.Moved.{moved_derives}
 use Rattle.justfile_chunks.specs.Parts.{AreRead, IsRead, ParsedChunk, PartsLaw, features_in_text, items_in_text}
-use Rattle.justfile_chunks.proofs.MovedChunks.{none_more}
+use Rattle.justfile_chunks.proofs.MovedChunks.{unmoved}
 use Rattle.justfile_chunks.proofs.MovedTrees.{drop_mapped, items_twice, noted_twice}
 use Rattle.justfile_chunks.proofs.ReadTexts.{BeginsWithNewline, feed_before, newline_first, read_law}
 
@@ -120,27 +120,15 @@ module _ (conditions : Conditions) where
                 ∙ sym (map-append (over_noted (moved offset line)) p.features (map (over_noted (moved bytes lines)) w.noted));
           }
 
-  unmoved : (ts : List Tok) → map (moved 0 0) ts ≡ ts
-  unmoved [] = refl
-  unmoved (t ∷ ts) = λ i.
-      (record {
-        kind = t.kind;
-        lexeme = t.lexeme;
-        offset = none_more t.offset i;
-        line = none_more t.line i;
-        column = t.column;
-      }) ∷ unmoved ts i
-
 pub parts_law : PartsLaw
 parts_law conditions parts h =
     let w = whole conditions parts 0 0 h in
     let d = w.derives in
     let text = joined (texts parts) in
     subst (λ all. TextDerives conditions text all (flat_map features_in_text parts)) (sym w.all_is)
-    (subst (TextDerives conditions text (map (moved_item 0 0) w.all)) (sym w.noted_are) (record {
-      utf8 = d.utf8;
-      tokens = d.tokens;
-      lexed = d.lexed;
-      file = subst (λ ts. FileDerives conditions (significant_tokens ts) (map (moved_item 0 0) w.all) (map (over_noted (moved 0 0)) w.noted))
-          (unmoved conditions d.tokens) (moved_derives 0 0 conditions d.tokens w.all w.noted d.file);
-    }))
+    (subst (TextDerives conditions text (map (moved_item 0 0) w.all)) (sym w.noted_are)
+    (search (
+      subst (λ ts. FileDerives conditions (significant_tokens ts) (map (moved_item 0 0) w.all) (map (over_noted (moved 0 0)) w.noted))
+          (unmoved d.tokens) (moved_derives 0 0 conditions d.tokens w.all w.noted d.file),
+      d,
+    )))

@@ -19,7 +19,7 @@ use Rattle.justfile_model.specs.Meanings.Meaning.{entries_of}
 use Rattle.justfile_model.specs.Meanings.Rules.{over_broken}
 use Rattle.justfile_model.specs.Trees.ContentLeaf.{literal_value}
 use Rattle.justfile_model.specs.Trees.LeafView.{LeafView, tok_content, views_tokens}
-use Rattle.justfile_model.specs.Trees.Tree.{Comment, Construct, Content, Entry, Newline, Tree, WrittenAttribute, WrittenItem, WrittenTree, lexeme, line_of, over_content, over_entry, over_item, over_written_attribute}
+use Rattle.justfile_model.specs.Trees.Tree.{Construct, Content, Entry, Tree, WrittenAttribute, WrittenItem, WrittenTree, lexeme, line_of, over_content, over_entry, over_item, over_written_attribute}
 use Rattle.justfile_model.proofs.Derivations.Carry as carry
 use Rattle.justfile_model.proofs.Derivations.Carry.{Alike, Maps, over_items}
 use Rattle.justfile_model.proofs.Derivations.CarryExpressions.{Pairs, Same, cons, nil, pairs_before}
@@ -110,13 +110,7 @@ module _ (offset line : ℕ) where
       } in
       let x =
       carry.file to_tokens (BelowLimit limit) unchanged (λ t u. IsMoved u t) back_same to_tokens (BelowLimit limit) moves same (λ d ts us s opened. opened) h ts (back_pairs s) in
-      record {
-        tree = x.tree;
-        features = x.features;
-        derives = x.derives;
-        written_is = sym (items_itself written) ∙ sym x.alike;
-        features_are = sym (features_itself fs) ∙ sym x.noted_alike;
-      }
+      search (x, sym (items_itself written) ∙ sym x.alike, sym (features_itself fs) ∙ sym x.noted_alike)
 
   -- ---- what is seen
 
@@ -162,10 +156,9 @@ module _ (offset line : ℕ) where
 
     item_moved : (i : WrittenItem Tok Tok ℕ Tok)
         → ordered_item view (move_item i) ≡ option_map (moved_item offset line) (ordered_item view i)
-    item_moved Newline = refl
-    item_moved (Comment text) = refl
     item_moved (Construct ws content) =
         ap (with_entries (move_content content)) (entries_moved ws) ∙ with_moved content (entries_of view ws)
+    item_moved _ = refl
 
     undocumented_moved : (written : WrittenTree)
         → undocumented view (over_items moves written) ≡ option_map move_tree (undocumented view written)
@@ -199,19 +192,17 @@ module _ (offset line : ℕ) where
     features_moved : (written : WrittenTree) (fs : List (ConstructFeatures Tok))
         → all_features view (over_items moves written) (map (over_features move) fs) ≡ map (over_noted move) (all_features view written fs)
     features_moved [] fs = refl
-    features_moved (Newline ∷ items) fs = features_moved items fs
-    features_moved (Comment text ∷ items) fs = features_moved items fs
     features_moved (Construct ws content ∷ items) [] = refl
     features_moved (Construct ws content ∷ items) (f ∷ fs) =
         both_over (over_noted move) (construct_features view ws content f) (all_features view items fs) _ _ (construct_moved ws content f) (features_moved items fs)
+    features_moved (i ∷ items) fs = features_moved items fs
 
     -- ---- rules
 
     item_broken_moved : (current : VersionNumbers) (i : WrittenItem Tok Tok ℕ Tok)
         → item_broken current view (move_item i) ≡ map (over_broken move) (item_broken current view i)
-    item_broken_moved current Newline = refl
-    item_broken_moved current (Comment text) = refl
     item_broken_moved current (Construct ws content) = construct_broken_over sees current (λ n. line + n) ws content (entries_moved ws)
+    item_broken_moved current _ = refl
 
     broken_moved : (current : VersionNumbers) (written : WrittenTree)
         → broken current view (over_items moves written) ≡ map (over_broken move) (broken current view written)

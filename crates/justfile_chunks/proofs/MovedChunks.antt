@@ -265,7 +265,7 @@ module _ (text : List ℕ) where
 pub none_more : (n : ℕ) → 0 + n ≡ n
 none_more n = omega arith
 
-unmoved : (ts : List Tok) → map (moved 0 0) ts ≡ ts
+pub unmoved : (ts : List Tok) → map (moved 0 0) ts ≡ ts
 unmoved [] = refl
 unmoved (t ∷ ts) = λ i.
     (record { kind = t.kind; lexeme = t.lexeme; offset = none_more t.offset i; line = none_more t.line i; column = t.column }) ∷ unmoved ts i

@@ -60,8 +60,7 @@ module _ {A B A' B' A'' B'' : Type 0} (f : A → A') (g : B → B') (f' : A' →
 
   option_name_twice : (o : OptionName A B) → over_option f' g' (over_option f g o) ≡ over_option ff gg o
   option_name_twice tree.NoOption = refl
-  option_name_twice (tree.OwnName key) = refl
-  option_name_twice (tree.Named name) = refl
+  option_name_twice _ = refl
 
   property_twice : (p : Property A B) → over_property f' g' (over_property f g p) ≡ over_property ff gg p
   property_twice p = λ i. record { key = gg p.key; value = expr_twice p.value i }
@@ -81,17 +80,16 @@ module _ {A B A' B' A'' B'' : Type 0} (f : A → A') (g : B → B') (f' : A' →
   }
 
   attribute_twice : (a : Attribute A B) → over_attribute f' g' (over_attribute f g a) ≡ over_attribute ff gg a
-  attribute_twice (tree.Plain kind) = refl
   attribute_twice (tree.Single kind value) = ap (tree.Single kind) (expr_twice value)
   attribute_twice (tree.Texts kind texts) =
       ap (tree.Texts kind) (map_twice (over_quoted f' g') (over_quoted f g) (over_quoted ff gg) (λ q. refl) texts)
   attribute_twice (tree.Env key value) = λ i. tree.Env (expr_twice key i) (expr_twice value i)
-  attribute_twice (tree.Signals signals) = refl
   attribute_twice (tree.Cache extra inputs outputs) = λ i.
       tree.Cache (option_twice (over_expr f' g') (over_expr f g) (over_expr ff gg) expr_twice extra i)
       (option_twice (over_expr f' g') (over_expr f g) (over_expr ff gg) expr_twice inputs i)
       (option_twice (over_expr f' g') (over_expr f g) (over_expr ff gg) expr_twice outputs i)
   attribute_twice (tree.Arg rules) = ap tree.Arg (rules_twice rules)
+  attribute_twice _ = refl
 
   entry_twice : (e : Entry A B) → over_entry f' g' (over_entry f g e) ≡ over_entry ff gg e
   entry_twice e = λ i. record { name = gg e.name; attribute = attribute_twice e.attribute i; comment = e.comment }
@@ -167,10 +165,9 @@ module _ {A B A' B' A'' B'' : Type 0} (f : A → A') (g : B → B') (f' : A' →
 
       item_twice : (x : tree.Item A B C S (List (Entry A B)))
           → over_item f' g' h' k' (map (over_entry f' g')) (over_item f g h k (map (over_entry f g)) x) ≡ over_item ff gg hh kk (map (over_entry ff gg)) x
-      item_twice tree.Newline = refl
-      item_twice (tree.Comment text) = refl
       item_twice (tree.Construct attributes content) = λ i.
           tree.Construct (map_twice (over_entry f' g') (over_entry f g) (over_entry ff gg) entry_twice attributes i) (content_twice content i)
+      item_twice _ = refl
 
 -- ---- moved trees
 

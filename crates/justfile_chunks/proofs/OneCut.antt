@@ -1,90 +1,33 @@
 -- The grammar's part of the laws of chunks: the law for one cut, that tokens that derive items have their colons, and that a line end before
 -- tokens is derived as one.
-use Rattle.std.proofs.Common.{◌≡◌, ◌∙◌, ℕ, Bool, true, false, cond, List, [], ◌∷◌, ◌++◌, Option, refl, sym, ap, subst, append_assoc, append-nil}
+use Rattle.std.proofs.Common.{◌≡◌, ◌∙◌, ℕ, true, false, cond, List, [], ◌∷◌, ◌++◌, refl, sym, ap, subst, append_assoc, append-nil}
 use Rattle.std.proofs.lemmas.List.{map-append, reverse-append, reverse-reverse}
 use Rattle.std.specs.Prelude.{◌↔◌, map, reverse}
-use Rattle.justfile_vocabulary.specs.declared.token_kind.TokenKind.{TokenKind}
 use Rattle.justfile_vocabulary.specs.declared.token_kind.TokenKind.TheVariants as kinds
 use Rattle.justfile_model.specs.Grammars.Conditions.{Conditions}
 use Rattle.justfile_model.specs.Grammars.Docs.{LineEnd, documented}
-use Rattle.justfile_model.specs.Grammars.Expressions.{BelowLimit, Tokens, IsKind}
-use Rattle.justfile_model.specs.Grammars.Features.{ConstructFeatures, Noted}
+use Rattle.justfile_model.specs.Grammars.Expressions.{BelowLimit, Tokens}
+use Rattle.justfile_model.specs.Grammars.Features.{Noted}
 use Rattle.justfile_model.specs.Grammars.Files.{FileDerives, ShapeDerives, ordered, sets_doc, to_lexemes, to_tokens}
-use Rattle.justfile_model.specs.Grammars.Grammar as g
-use Rattle.justfile_model.specs.Grammars.Grammar.{File, ItemRest, Items, TokenProjection}
-use Rattle.justfile_model.specs.Lexing.SignificantTokens.{SignificantToken, is_whitespace, significant_from, significant_tokens}
+use Rattle.justfile_model.specs.Grammars.Grammar.{File, TokenProjection}
+use Rattle.justfile_model.specs.Lexing.SignificantTokens.{is_whitespace, significant_from, significant_tokens}
 use Rattle.justfile_model.specs.Lexing.Tok.{Tok}
 use Rattle.justfile_model.specs.LiteralTexts.Literals.{Literal, over_literal}
 use Rattle.justfile_model.specs.Trees.LeafView.{LeafView, views_lexemes, views_tokens}
 use Rattle.justfile_model.specs.Trees.Tree as tree
-use Rattle.justfile_model.specs.Trees.Tree.{OrderedItem, Shape, Tree, WrittenItem, lexeme}
+use Rattle.justfile_model.specs.Trees.Tree.{OrderedItem, Shape, Tree, lexeme}
 use Rattle.justfile_chunks.specs.Chunks.{IsCut, IsCutAfter, ShapeFeatures, ends_line}
-use Rattle.justfile_chunks.proofs.AgainAttributes as again_attributes
-use Rattle.justfile_chunks.proofs.AgainItems as again_items
-use Rattle.justfile_chunks.proofs.Colons.{IndentsHaveColons, file_colons, with_whitespace}
+use Rattle.justfile_chunks.proofs.Colons.{IndentsHaveColons, LastIs, file_colons, with_whitespace}
 use Rattle.justfile_chunks.proofs.CutTokens.{cut_here, ends_dark, significant, significant_append}
 use Rattle.justfile_chunks.proofs.Joins.{after_end}
-use Rattle.justfile_chunks.proofs.Over.{Over, same, step}
-use Rattle.justfile_chunks.proofs.Passes.{CutHere, clash, self_ahead}
+use Rattle.justfile_chunks.proofs.Passes.{CutHere, clash}
 use Rattle.justfile_chunks.proofs.Sides.{Derives, Sides, behind, cut_joined, cut_split, past_end, with_end, without_end}
 
--- ---- the last token
-
-abbrev LastIs : TokenKind → Tokens → Type 0
-LastIs kind [] = ⊥
-LastIs kind (t ∷ []) = IsKind kind t
-LastIs kind (t ∷ u ∷ ts) = LastIs kind (u ∷ ts)
-
-abbrev FirstIs : TokenKind → Tokens → Type 0
-FirstIs kind [] = ⊥
-FirstIs kind (t ∷ ts) = IsKind kind t
-
-last_more : (kind : TokenKind) (t : SignificantToken) (ts : Tokens) → LastIs kind ts → LastIs kind (t ∷ ts)
-last_more kind t [] h = absurd h
-last_more kind t (u ∷ ts) h = h
-
-last_over : (kind : TokenKind) {ok : TokenKind → Bool} {x y ts after : Tokens} → Over ok x y ts after → LastIs kind x → LastIs kind ts
-last_over kind same h = h
-last_over kind (step {t = t} {a = ts} q o) h = last_more kind t ts (last_over kind o h)
-
-last_behind : (kind : TokenKind) (earlier ts : Tokens) → LastIs kind ts → FirstIs kind (behind earlier ts)
-last_behind kind earlier [] h = absurd h
-last_behind kind earlier (t ∷ []) h = h
-last_behind kind earlier (t ∷ u ∷ ts) h = last_behind kind (t ∷ earlier) (u ∷ ts) h
-
-module _ {A B C S : Type 0} (projection : TokenProjection A B C S) (MayEnter : ℕ → Option SignificantToken → Type 0) where
-  mutual
-    items_last : {items : List (WrittenItem A B C S)} {fs : List (ConstructFeatures B)} {ts : Tokens} → Items projection MayEnter items fs ts
-        → LastIs kinds.Eof ts
-    items_last (g.end kind) = kind
-    items_last (g.blank {token = t} {rest = ts} kind more) = last_more kinds.Eof t ts (items_last more)
-    items_last (g.comment {token = t} {rest = ts} kind r) = last_more kinds.Eof t ts (rest_last r)
-    items_last (g.on_line a o r) =
-        let x = again_items.on_line projection MayEnter o (self_ahead projection MayEnter r) in
-        let y = again_attributes.attribute_lines projection.leaf projection.position MayEnter a x.ahead in
-        last_over kinds.Eof y.over (last_over kinds.Eof x.over (rest_last r))
-    items_last (g.block {rest = rest} a b more) =
-        let x = again_items.block projection MayEnter b rest in
-        let y = again_attributes.attribute_lines projection.leaf projection.position MayEnter a x.ahead in
-        last_over kinds.Eof y.over (last_over kinds.Eof x.over (items_last more))
-
-    rest_last : {items : List (WrittenItem A B C S)} {fs : List (ConstructFeatures B)} {ts : Tokens} → ItemRest projection MayEnter items fs ts
-        → LastIs kinds.Eof ts
-    rest_last (g.trailing {token = t} {rest = ts} kind e) = last_more kinds.Eof t ts (end_last e)
-    rest_last (g.bare e) = end_last e
-
-    end_last : {items : List (WrittenItem A B C S)} {fs : List (ConstructFeatures B)} {ts : Tokens} → g.LineEnd projection MayEnter items fs ts
-        → LastIs kinds.Eof ts
-    end_last (g.line_end {token = t} {rest = ts} kind more) = last_more kinds.Eof t ts (items_last more)
-    end_last (g.file_end kind) = kind
-
-  file_last : {items : List (WrittenItem A B C S)} {fs : List (ConstructFeatures B)} {ts : Tokens} → File projection MayEnter items fs ts → LastIs kinds.Eof ts
-  file_last (g.with_byte_order_mark {token = t} {rest = ts} kind more) = last_more kinds.Eof t ts (items_last more)
-  file_last (g.without_byte_order_mark more) = items_last more
-
-not_cut : (later earlier : Tokens) → CutHere later earlier → FirstIs kinds.Eof earlier → ⊥
-not_cut later [] k e = k
-not_cut later (t ∷ earlier) k e = clash (ap ends_line e) k.ends
+-- no cut comes after the end
+not_cut : (later earlier ts : Tokens) → CutHere later (behind earlier ts) → LastIs kinds.Eof ts → ⊥
+not_cut later earlier [] k h = h
+not_cut later earlier (t ∷ []) k h = clash (ap ends_line h) k.ends
+not_cut later earlier (t ∷ u ∷ ts) k h = not_cut later (t ∷ earlier) (u ∷ ts) k h
 
 -- ---- tokens that derive items with features, before a cut and after it
 
@@ -148,16 +91,7 @@ module _ {A B C : Type 0} (projection : TokenProjection A B C B) (conditions : C
   -- tokens that derive the same written items derive the same items and features
   pub rederived : (ts us : List Tok) {all : Ordered} {features : List (Noted B)} (d : TokensDerive ts all features)
       → File projection (BelowLimit conditions.limit) d.written d.by_construct (significant_tokens us) → TokensDerive us all features
-  rederived ts us d derives = record {
-    written = d.written;
-    by_construct = d.by_construct;
-    derives = derives;
-    features_are = d.features_are;
-    cooked = d.cooked;
-    cooks = d.cooks;
-    unbroken = d.unbroken;
-    ordered_is = d.ordered_is;
-  }
+  rederived ts us d derives = search (derives, d)
 
   abbrev SidesDerive : (before after : List Tok) (feed eof : Tok) → Ordered → List (Noted B) → Type 0
   SidesDerive = CutSides tree.Newline TokensDerive
@@ -205,8 +139,8 @@ module _ {A B C : Type 0} (projection : TokenProjection A B C B) (conditions : C
 
     split_by : (vs : Tokens) → us ≡ vs → (all : Ordered) (features : List (Noted B)) → Derived (ts ++ us) all features → Both us all features
     split_by [] e all features d =
-        absurd (not_cut us (behind [] ts) cut (last_behind kinds.Eof [] ts (file_last projection (BelowLimit conditions.limit)
-        (subst (λ t. File projection (BelowLimit conditions.limit) d.written d.by_construct t) (ap (λ x. ts ++ x) e ∙ append-nil ts) d.derives))))
+        absurd (not_cut us [] ts cut (file_colons projection (BelowLimit conditions.limit)
+        (subst (λ t. File projection (BelowLimit conditions.limit) d.written d.by_construct t) (ap (λ x. ts ++ x) e ∙ append-nil ts) d.derives) false).last)
     split_by (u ∷ x) e all features d =
         subst (λ v. Both v all features) (sym e)
         (cut_split projection conditions view texts texts_append ts (significant eof true) is_eof u x (subst (λ v. CutHere v (behind [] ts)) e cut)
@@ -216,18 +150,11 @@ module _ {A B C : Type 0} (projection : TokenProjection A B C B) (conditions : C
         → SidesDerive before after feed eof all features
     split all features d =
         let s = split_by us refl all features (subst (λ t. Derived t all features) whole_is d) in
-        record {
-          left = s.left;
-          right = s.right;
-          left_features = s.left_features;
-          right_features = s.right_features;
-          left_derives = subst (λ t. Derived t s.left s.left_features) (sym left_is) s.left_derives;
-          right_derives =
-              subst (λ t. Derived t (tree.Newline ∷ s.right) s.right_features) (sym right_is)
-              (with_end projection conditions view texts texts_append is_feed s.right_derives);
-          all_is = s.all_is;
-          features_are = s.features_are;
-        }
+        search (
+          s,
+          subst (λ t. Derived t s.left s.left_features) (sym left_is) s.left_derives,
+          subst (λ t. Derived t (tree.Newline ∷ s.right) s.right_features) (sym right_is) (with_end projection conditions view texts texts_append is_feed s.right_derives),
+        )
 
   pub cut_law : CutLaw tree.Newline TokensDerive
   cut_law before after feed eof is_feed is_eof c all features =
@@ -255,29 +182,11 @@ module _ (conditions : Conditions) where
 
   pub shape_from : (ts : List Tok) {shape : Shape} {features : ShapeFeatures} → TokensDeriveShape ts shape features
       → ShapeDerives conditions (significant_tokens ts) shape features
-  shape_from ts d = record {
-    written = d.written;
-    by_construct = d.by_construct;
-    derives = d.derives;
-    features_are = d.features_are;
-    cooked = d.cooked;
-    cooks = d.cooks;
-    unbroken = d.unbroken;
-    ordered_is = d.ordered_is;
-  }
+  shape_from ts d = search d
 
   pub shape_to : (ts : List Tok) {shape : Shape} {features : ShapeFeatures} → ShapeDerives conditions (significant_tokens ts) shape features
       → TokensDeriveShape ts shape features
-  shape_to ts d = record {
-    written = d.written;
-    by_construct = d.by_construct;
-    derives = d.derives;
-    features_are = d.features_are;
-    cooked = d.cooked;
-    cooks = d.cooks;
-    unbroken = d.unbroken;
-    ordered_is = d.ordered_is;
-  }
+  shape_to ts d = search d
 
   -- ---- trees
 
@@ -287,24 +196,8 @@ module _ (conditions : Conditions) where
 
   pub tree_from : (ts : List Tok) {all : Tree} {features : List (Noted Tok)} → TokensDeriveTree ts all features
       → FileDerives conditions (significant_tokens ts) all features
-  tree_from ts d = record {
-    written = d.written;
-    by_construct = d.by_construct;
-    derives = d.derives;
-    features_are = d.features_are;
-    obeys = record { cooked = d.cooked; cooks = d.cooks; unbroken = d.unbroken };
-    ordered_is = d.ordered_is;
-  }
+  tree_from ts d = search d
 
   pub tree_to : (ts : List Tok) {all : Tree} {features : List (Noted Tok)} → FileDerives conditions (significant_tokens ts) all features
       → TokensDeriveTree ts all features
-  tree_to ts d = record {
-    written = d.written;
-    by_construct = d.by_construct;
-    derives = d.derives;
-    features_are = d.features_are;
-    cooked = d.obeys.cooked;
-    cooks = d.obeys.cooks;
-    unbroken = d.obeys.unbroken;
-    ordered_is = d.ordered_is;
-  }
+  tree_to ts d = search d

@@ -107,22 +107,19 @@ record Reached (R : Tokens → Type 0) (rest : Tokens) : Type 0 where
   derives : R after
 
 record ReachedAhead (R : Tokens → Type 0) (a us rest : Tokens) : Type 0 where
-  reached : Reached R rest
+  after : Tokens
+  near : Pairs Near rest after
+  derives : R after
   ahead : Ahead a us
 
 before_body : {comment : Option (List ℕ)} {ts rest us : Tokens} → BeforeBody comment ts rest → Pairs Near ts us
     → ReachedAhead (λ r. BeforeBody comment us r) ts us rest
-before_body (g.at_once kind kind2) (cons n (cons {us = us} m ns)) = record {
-  reached = record { after = us; near = ns; derives = g.at_once (kind_near kind n) (kind_near kind2 m) };
-  ahead = near_ahead (ap is_quiet kind) (ap is_dedent kind) n;
-}
+before_body (g.at_once kind kind2) (cons n (cons {us = us} m ns)) =
+    record { after = us; near = ns; derives = g.at_once (kind_near kind n) (kind_near kind2 m); ahead = near_ahead (ap is_quiet kind) (ap is_dedent kind) n }
 before_body {comment = c} (g.commented kind kind2 kind3) (cons n (cons {u = v} m (cons {u = w} {us = us} l ns))) = record {
-  reached = record {
-    after = us;
-    near = ns;
-    derives =
-        subst (λ u. BeforeBody c (u ∷ v ∷ w ∷ us) us) (same_one (ap is_dedent kind) n) (g.commented kind (kind_near kind2 m) (kind_near kind3 l));
-  };
+  after = us;
+  near = ns;
+  derives = subst (λ u. BeforeBody c (u ∷ v ∷ w ∷ us) us) (same_one (ap is_dedent kind) n) (g.commented kind (kind_near kind2 m) (kind_near kind3 l));
   ahead = near_ahead (ap is_quiet kind) (ap is_dedent kind) n;
 }
 
@@ -138,13 +135,10 @@ module _ {A B C S : Type 0} (projection : TokenProjection A B C S) (MayEnter : �
       record { after = us; near = ns; derives = g.line_ends (kind_near kind n) }
   line_rest (g.body_ends kind) (cons {u = u} {us = us} n ns) =
       record { after = u ∷ us; near = cons n ns; derives = g.body_ends (kind_near kind n) }
-  line_rest {fragments = fragments} {fs = fs} (g.text kind others) (cons {us = us} n ns) =
+  line_rest {fragments = fragments} {fs = fs} {rest = rest} (g.text kind others) (cons {us = us} n ns) =
       let r = line_rest others ns in
-      record {
-        after = r.after;
-        near = r.near;
-        derives = subst (λ u. Rest fragments fs (u ∷ us) r.after) (same_one (ap is_dedent kind) n) (g.text kind r.derives);
-      }
+      subst (λ u. Reached (λ x. Rest fragments fs (u ∷ us) x) rest) (same_one (ap is_dedent kind) n)
+      (record { after = r.after; near = r.near; derives = g.text kind r.derives })
   line_rest (g.interpolation {end = t} {others = x} kind e kind2 others) (cons n ns) =
       let name = not_end t kind2 in
       let self = again_expressions.expression projection.leaf projection.position MayEnter e (one {t = t} {a = x} {b = x} name) in
@@ -159,24 +153,15 @@ module _ {A B C S : Type 0} (projection : TokenProjection A B C S) (MayEnter : �
   body_lines : {lines : List (BodyLine A B C)} {fs : List (Noted B)} {ts rest us : Tokens} → BodyLines projection MayEnter lines fs ts rest → Pairs Near ts us
       → Reached (λ r. BodyLines projection MayEnter lines fs us r) rest
   body_lines (g.no_line kind) (cons {us = us} n ns) = record { after = us; near = ns; derives = g.no_line (kind_near kind n) }
-  body_lines {lines = lines} {fs = fs} (g.empty_line kind others) (cons {us = us} n ns) =
+  body_lines {lines = lines} {fs = fs} {rest = rest} (g.empty_line kind others) (cons {us = us} n ns) =
       let r = body_lines others ns in
-      record {
-        after = r.after;
-        near = r.near;
-        derives = subst (λ u. BodyLines projection MayEnter lines fs (u ∷ us) r.after) (same_one (ap is_dedent kind) n) (g.empty_line kind r.derives);
-      }
-  body_lines {lines = lines} {fs = fs} (g.some_line {f = f} {fragments = fragments} {fs = es} {first = t} line others) (cons {us = us} n ns) =
-      let l = line_rest line (cons n ns) in
+      subst (λ u. Reached (λ x. BodyLines projection MayEnter lines fs (u ∷ us) x) rest) (same_one (ap is_dedent kind) n)
+      (record { after = r.after; near = r.near; derives = g.empty_line kind r.derives })
+  body_lines {lines = lines} {fs = fs} {rest = rest} (g.some_line line others) (cons {us = us} n ns) =
+      let l = line_rest line (cons (inl refl) ns) in
       let r = body_lines others l.near in
-      let e = same_one (first_loud line) n in
-      record {
-        after = r.after;
-        near = r.near;
-        derives =
-            subst (λ u. BodyLines projection MayEnter lines fs (u ∷ us) r.after) e
-            (g.some_line (subst (λ u. Rest (f ∷ fragments) es (u ∷ us) l.after) (sym e) l.derives) r.derives);
-      }
+      subst (λ u. Reached (λ x. BodyLines projection MayEnter lines fs (u ∷ us) x) rest) (same_one (first_loud line) n)
+      (record { after = r.after; near = r.near; derives = g.some_line l.derives r.derives })
     where
       first_loud : {f : Fragment A B} {fragments : List (Fragment A B)} {fs : List (Noted B)} {t : SignificantToken} {ts rest : Tokens}
           → Rest (f ∷ fragments) fs (t ∷ ts) rest → is_dedent t.tok.kind ≡ false
@@ -190,8 +175,8 @@ module _ {A B C S : Type 0} (projection : TokenProjection A B C S) (MayEnter : �
       let f = follow quiet_loud self.over ns in
       let b = before_body before f.near in
       let x = rederived f.followed (again_headers.header projection.leaf projection.position projection.star MayEnter h b.ahead) in
-      let l = body_lines lines b.reached.near in
-      record { reached = record { after = l.after; near = l.near; derives = g.recipe x.derives b.reached.derives l.derives some }; ahead = x.ahead }
+      let l = body_lines lines b.near in
+      record { after = l.after; near = l.near; derives = g.recipe x.derives b.derives l.derives some; ahead = x.ahead }
 
   -- ---- items
 
@@ -222,7 +207,7 @@ module _ {A B C S : Type 0} (projection : TokenProjection A B C S) (MayEnter : �
         let f = follow inside_loud lines.over ns in
         let x = block b f.near in
         let y = rederived f.followed (again_attributes.attribute_lines projection.leaf projection.position MayEnter a x.ahead) in
-        g.block y.derives x.reached.derives (items_near more x.reached.near)
+        g.block y.derives x.derives (items_near more x.near)
 
     rest_near : {items : List (WrittenItem A B C S)} {fs : List (ConstructFeatures B)} {ts us : Tokens} → ItemRest projection MayEnter items fs ts
         → Pairs Near ts us → ItemRest projection MayEnter items fs us

@@ -96,6 +96,45 @@ pub record Again (ok : TokenKind → Bool) (x y : Tokens) (R : Tokens → Type 0
 pub again : {ok : TokenKind → Bool} {x y a after : Tokens} {R : Tokens → Type 0} → R after → Over ok x y a after → Ahead x y → Again ok x y R a
 again derives over h = record { after = _; derives = derives; over = over; ahead = ahead_of over h }
 
+-- What is derived before a rest is derived again before each other one that looks the same.
+abbrev pub Local : (TokenKind → Bool) → (Tokens → Tokens → Type 0) → (ts x y : Tokens) → Type 0
+Local ok R ts x y = R ts x → Ahead x y → Again ok x y (λ r. R r y) ts
+
+module _ {ok : TokenKind → Bool} {x y : Tokens} where
+  -- by a rule
+  pub rule : {a : Tokens} {R Q : Tokens → Type 0} (r : Again ok x y R a) → (Ahead a r.after → R r.after → Q r.after) → Again ok x y Q a
+  rule r f = record { after = r.after; derives = f r.ahead r.derives; over = r.over; ahead = r.ahead }
+
+  begun : (R : Tokens → Type 0) {Q : Tokens → Type 0} {t : SignificantToken} {a after : Tokens} → R after → Over ok x y (t ∷ a) after → Ahead (t ∷ a) after
+      → ((b : Tokens) → Ahead (t ∷ a) (t ∷ b) → R (t ∷ b) → Q (t ∷ b)) → Again ok x y Q (t ∷ a)
+  begun R derives over (one away) f = record { after = _; derives = f _ (one away) derives; over = over; ahead = one away }
+  begun R derives over (two {t = t} {u = u} {a = a} {b = b}) f =
+      let ahead = two {t = t} {u = u} {a = a} {b = b} in record { after = _; derives = f _ ahead derives; over = over; ahead = ahead }
+
+  -- by a rule that names the first token
+  pub headed : {t : SignificantToken} {a : Tokens} {R Q : Tokens → Type 0} → Again ok x y R (t ∷ a)
+      → ((b : Tokens) → Ahead (t ∷ a) (t ∷ b) → R (t ∷ b) → Q (t ∷ b)) → Again ok x y Q (t ∷ a)
+  headed {R = R} r f = begun R r.derives r.over r.ahead f
+
+  -- with a token before it
+  pub token : {kind : TokenKind} {t : SignificantToken} {a : Tokens} {Q : Tokens → Type 0} → IsKind kind t → ok kind ≡ true → Again ok x y (λ r. Q (t ∷ r)) a
+      → Again ok x y Q (t ∷ a)
+  token kind q r = record { after = _; derives = r.derives; over = step (ap ok kind ∙ q) r.over; ahead = more r.ahead }
+
+  -- with a token after it
+  pub closed : {kind : TokenKind} {t : SignificantToken} {a : Tokens} {Q : Tokens → Type 0} → IsKind kind t → ok kind ≡ true → Again ok (t ∷ x) (t ∷ y) Q a
+      → Again ok x y Q a
+  closed kind q r = record { after = r.after; derives = r.derives; over = past r.over (step (ap ok kind ∙ q) same); ahead = r.ahead }
+
+  -- with another one after it
+  pub followed : {a b : Tokens} {R S : Tokens → Type 0} (s : Again ok x y S b) → Again ok b s.after R a → Again ok x y R a
+  followed s r = record { after = r.after; derives = r.derives; over = past r.over s.over; ahead = r.ahead }
+
+  -- with a token and another one after it
+  pub joined : {kind : TokenKind} {t : SignificantToken} {a b : Tokens} {R S : Tokens → Type 0} (s : Again ok x y S b) → IsKind kind t → ok kind ≡ true
+      → Again ok (t ∷ b) (t ∷ s.after) R a → Again ok x y R a
+  joined s kind q r = record { after = r.after; derives = r.derives; over = past r.over (step (ap ok kind ∙ q) s.over); ahead = r.ahead }
+
 -- ---- conditions on the next tokens
 
 pub enter : {a b : Tokens} (May : Option SignificantToken → Type 0) → Ahead a b → May (front a) → May (front b)

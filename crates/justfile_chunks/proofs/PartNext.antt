@@ -46,7 +46,7 @@ module _ (limit : ℕ) where
 
   both_refused : (b : Bool) (r s : LexicalError) (y : NextToken) → Kept limit (cond b (Err r) (Err s)) y
   both_refused true r s y = record { kept = tt }
-  both_refused false r s y = record { kept = tt }
+  both_refused _ r s y = record { kept = tt }
 
   either_if : (b c : Bool) {x y x' y' : NextToken} → b ≡ c → (b ≡ true → Kept limit x x') → (b ≡ false → Kept limit y y')
       → Kept limit (cond b x y) (cond c x' y')
@@ -105,8 +105,7 @@ module _ (k : StringKind) (format : Bool) (opener : ℕ) (more ended : TokenKind
       (cond (format && starts_alike inside w v x h i) (Ok (more, opener + inside + 2)) (Ok (ended, opener + inside + delimiter_len k))))
 
   delimiter_some : (b : Bool) → 1 ≤ cond b 3 1
-  delimiter_some true = omega arith
-  delimiter_some false = omega arith
+  delimiter_some b = grind (arith, nat_tests)
 
   following_kept : (w v x : List ℕ) → Kept (opener + suc (length w)) (part_of k format opener (inside_of (w ++ (10 ∷ v))) more ended (w ++ (10 ∷ v)))
       (part_of k format opener (inside_of (w ++ (10 ∷ x))) more ended (w ++ (10 ∷ x)))
@@ -208,20 +207,9 @@ module _ (m : Mode) (b : ℕ) (bs v x : List ℕ) (stops : blank_len x ≡ 0) wh
   tripled cs y = eqb (get_or (cs ++ (10 ∷ y)) 0 0) b && eqb (get_or (cs ++ (10 ∷ y)) 1 0) b
 
   tripled_same : (cs : List ℕ) → eqb 10 b ≡ false → (tripled cs v ≡ tripled cs x) × (cond (tripled cs v) 3 1 ≤ suc (length cs))
-  tripled_same [] e = (
-    ap (λ t. t && eqb (get_or v 0 0) b) e ∙ sym (ap (λ t. t && eqb (get_or x 0 0) b) e),
-    subst (λ t. cond (t && eqb (get_or v 0 0) b) 3 1 ≤ 1) (sym e) (omega arith),
-  )
-  tripled_same (c ∷ []) e = (refl, subst (λ t. cond (eqb c b && t) 3 1 ≤ 2) (sym e) (by (eqb c b)))
-    where
-      by : (t : Bool) → cond (t && false) 3 1 ≤ 2
-      by true = omega arith
-      by false = omega arith
-  tripled_same (c ∷ d ∷ ds) e = (refl, by (eqb c b && eqb d b))
-    where
-      by : (t : Bool) → cond t 3 1 ≤ suc (suc (suc (length ds)))
-      by true = omega arith
-      by false = omega arith
+  tripled_same [] e = (grind (arith, nat_tests), grind (arith, nat_tests))
+  tripled_same (c ∷ []) e = (refl, grind (arith, nat_tests))
+  tripled_same (c ∷ d ∷ ds) e = (refl, grind (arith, nat_tests))
 
   literal_kept : class_of b ≡ classes.Quote → KeptHere (literal_token m whole) (literal_token m other)
   literal_kept e =

@@ -168,13 +168,7 @@ module _ (v : List ℕ) (later : List Tok) (some : 0 < length v) (more : 0 < len
   closes_more : (last : Bool) (xs : List ℕ) → closes_levels last xs ≡ true → closes_levels last (xs ++ v) ≡ true
   unfolding closes_levels
   closes_more last [] h = cc
-  closes_more last (b ∷ bs) h = by (white (class_of b)) h (closes_more (line_feed (class_of b)) bs)
-    where
-      by : (w : Bool) → cond w (closes_levels (line_feed (class_of b)) bs) last ≡ true
-          → (closes_levels (line_feed (class_of b)) bs ≡ true → closes_levels (line_feed (class_of b)) (bs ++ v) ≡ true)
-          → cond w (closes_levels (line_feed (class_of b)) (bs ++ v)) last ≡ true
-      by true h ih = ih h
-      by false h ih = h
+  closes_more last (b ∷ bs) h = grind (arith, nat_tests, closes_more (line_feed (class_of b)) bs)
 
   module _ (t : Tok) (ts earlier : List Tok) (tidy : Tidy earlier) (uncut : Uncut earlier (t ∷ ts) later) (utf8 : IsUtf8 (flat_map lexeme (t ∷ ts) ++ v))
       (run : Runs (mode earlier) (flat_map lexeme (t ∷ ts) ++ v) (t ∷ ts ++ later)) where

@@ -79,8 +79,7 @@ abbrev pub AtStart : Tokens → Type 0
 AtStart earlier = line_kind (bare earlier) ≡ None
 
 pub line_ended : (k : TokenKind) (line : Option TokenKind) → ends_line k ≡ true → line_with k line ≡ None
-line_ended kinds.Eol line e = refl
-line_ended kinds.Dedent line e = refl
+line_ended kinds.Eol line e = cc
 line_ended _ line e = cc
 
 pub starts : (t : SignificantToken) (earlier : Tokens) → ends_line t.tok.kind ≡ true → AtStart (t ∷ earlier)
@@ -94,7 +93,6 @@ line_begun : (k first : TokenKind) → ends_line k ≡ false → line_with k (So
 line_begun kinds.Eol first e = cc
 line_begun kinds.Dedent first e = cc
 line_begun kinds.ByteOrderMark first e = refl
-line_begun kinds.Whitespace first e = refl
 line_begun _ first e = refl
 
 -- the line goes on with this token

@@ -156,27 +156,20 @@ module _ (conditions : Conditions) (ts : List Tok) (at end : Tok) (others : List
       let f = newline_first conditions (move feed) moved_rest after.kind d in
       tree_from conditions (ts ++ moved_rest)
       ((cut_law to_tokens conditions view (map (over_literal lexeme)) (map-append (over_literal lexeme)) ts moved_rest (move feed) end after.kind before.later.ends.1
-      cut_there (left ++ drop 1 (map (moved_item offset line) right)) (left_features ++ map (over_noted move) right_features)).1 (record {
-        left = left;
-        right = f.0;
-        left_features = left_features;
-        right_features = map (over_noted move) right_features;
-        left_derives = tree_to conditions (ts ++ (end ∷ [])) derives;
-        right_derives = subst (λ all. TokensDeriveTree conditions (move feed ∷ moved_rest) all (map (over_noted move) right_features)) f.1
-            (tree_to conditions (move feed ∷ moved_rest) d);
-        all_is = ap (λ all. left ++ drop 1 all) f.1;
-        features_are = refl;
-      }))
+      cut_there (left ++ drop 1 (map (moved_item offset line) right)) (left_features ++ map (over_noted move) right_features)).1
+      (search (
+        tree_to conditions (ts ++ (end ∷ [])) derives,
+        subst (λ all. TokensDeriveTree conditions (move feed ∷ moved_rest) all (map (over_noted move) right_features)) f.1
+            (tree_to conditions (move feed ∷ moved_rest) d),
+        ap (λ all. left ++ drop 1 all) f.1,
+      )))
 
   joined_text : TextDerives conditions (text ++ (next ∷ others)) (left ++ drop 1 (map (moved_item offset line) right))
       (left_features ++ map (over_noted move) right_features)
-  joined_text = record {
-    utf8 = IsUtf8-append text (next ∷ others) (fed_utf8 text (next ∷ []) (feed_of text before.fed before.bytes) utf8)
-        (subst IsUtf8 after.text_is after.later.utf8);
-    tokens = ts ++ moved_rest;
-    lexed = tokens_are;
-    file = joined_derives;
-  }
+  joined_text =
+      let utf8_is = IsUtf8-append text (next ∷ others) (fed_utf8 text (next ∷ []) (feed_of text before.fed before.bytes) utf8)
+      (subst IsUtf8 after.text_is after.later.utf8) in
+      search (utf8_is, tokens_are, joined_derives)
 
 pub read_law : ReadLaw
 read_law conditions text others next left right left_features right_features l r is_other =

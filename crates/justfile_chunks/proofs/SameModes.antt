@@ -1,5 +1,6 @@
 -- Modes that differ in lines, in places and in a pending colon differ in no more after the same tokens, if none of their indents needs that colon.
-use Rattle.std.proofs.Common.{◌≡◌, ◌≢◌, ◌∙◌, ℕ, Bool, true, false, ◌||◌, List, [], ◌∷◌, map, Option, Some, None, Ok, Err, refl, sym, ap}
+use Rattle.std.proofs.Common.{◌≡◌, ◌≢◌, ◌∙◌, ℕ, Bool, true, false, ◌||◌, List, [], ◌∷◌, map, Option, Some, None, Ok, Err, refl, sym, ap, arith}
+use Rattle.std.proofs.lemmas.Bool.Decides.{nat_tests}
 use Rattle.std.specs.Str.{bytes_eq}
 use Rattle.justfile_vocabulary.specs.declared.token_kind.TokenKind.{TokenKind}
 use Rattle.justfile_vocabulary.specs.declared.token_kind.TokenKind.TheVariants as kinds
@@ -28,8 +29,7 @@ SameIndent _ m n = Unit {0}
 -- the modes after a token within a line, with these delimiters open
 amid_line : {m n : Mode} {os ps : List OpenDelimiter} → SameMode m n → delimiters os ≡ delimiters ps
     → SameMode (record m { openers = os; line_start = false; after_f = false }) (record n { openers = ps; line_start = false; after_f = false })
-amid_line s e =
-    record { openers = e; levels = s.levels; in_body = s.in_body; interpolation = s.interpolation; line_start = refl; after_f = refl }
+amid_line s e = assumption (s, e)
 
 -- the modes after a token of this kind and this text
 pub same_after : (k : TokenKind) (t u : Tok) (m n : Mode) → t.lexeme ≡ u.lexeme → SameMode m n → SameIndent k m n
@@ -44,25 +44,10 @@ same_after kinds.ParenR t u m n l s e = amid_line s (tails m.openers n.openers s
 same_after kinds.FormatStringEnd t u m n l s e = amid_line s (tails m.openers n.openers s.openers)
 same_after kinds.Indent t u m n l s e =
     record { openers = s.openers; levels = λ i. l i ∷ s.levels i; in_body = e; interpolation = s.interpolation; line_start = refl; after_f = refl }
-same_after kinds.Dedent t u m n l s e =
-    record { openers = s.openers; levels = ap tail_of s.levels; in_body = refl; interpolation = s.interpolation; line_start = s.line_start; after_f = refl }
-same_after kinds.InterpolationStart t u m n l s e =
-    record { openers = s.openers; levels = s.levels; in_body = s.in_body; interpolation = refl; line_start = refl; after_f = refl }
-same_after kinds.InterpolationEnd t u m n l s e =
-    record { openers = s.openers; levels = s.levels; in_body = s.in_body; interpolation = refl; line_start = refl; after_f = refl }
-same_after kinds.Whitespace t u m n l s e =
-    record { openers = s.openers; levels = s.levels; in_body = s.in_body; interpolation = s.interpolation; line_start = ap ends_in_line_feed l; after_f = refl }
-same_after kinds.Identifier t u m n l s e =
-    record {
-      openers = s.openers;
-      levels = s.levels;
-      in_body = s.in_body;
-      interpolation = s.interpolation;
-      line_start = refl;
-      after_f = ap (λ b. bytes_eq b (102 ∷ [])) l;
-    }
-same_after _ t u m n l s e =
-    record { openers = s.openers; levels = s.levels; in_body = s.in_body; interpolation = s.interpolation; line_start = refl; after_f = refl }
+same_after kinds.Dedent t u m n l s e = assumption (ap tail_of s.levels, s)
+same_after kinds.Whitespace t u m n l s e = assumption (ap ends_in_line_feed l, s)
+same_after kinds.Identifier t u m n l s e = assumption (ap (λ b. bytes_eq b (102 ∷ [])) l, s)
+same_after _ t u m n l s e = assumption s
 
 -- ---- colons
 
@@ -78,8 +63,7 @@ colons_kept kinds.Dedent t u m n colon h = record { first = λ e. cc; second = �
 colons_kept _ t u m n colon h = record { first = h.first; second = h.second }
 
 pub or_true : (a b : Bool) → b ≡ true → (a || b) ≡ true
-or_true true b h = refl
-or_true false b h = h
+or_true a b h = grind (arith, nat_tests)
 
 pub both_indent : (k : TokenKind) (m n : Mode) (colon : Bool) → HaveColon colon m n → NeedsColon k colon → SameIndent k m n
 both_indent kinds.Indent m n colon h e = or_true m.in_body m.colon (h.first e) ∙ sym (or_true n.in_body n.colon (h.second e))

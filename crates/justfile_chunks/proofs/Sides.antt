@@ -1,7 +1,6 @@
 -- The tokens of a file derive what those before a cut and those after it derive, joined.
-use Rattle.std.proofs.Common.{◌≡◌, ◌⊎◌, ◌∙◌, ℕ, true, false, cond, List, [], ◌∷◌, ◌++◌, Option, Some, refl, sym, ap, subst, ⊎_elim}
+use Rattle.std.proofs.Common.{◌≡◌, ◌∙◌, ℕ, List, [], ◌∷◌, ◌++◌, Option, Some, sym, ap, subst}
 use Rattle.std.specs.Option.{option_map}
-use Rattle.justfile_vocabulary.specs.declared.token_kind.TokenKind.{TokenKind}
 use Rattle.justfile_vocabulary.specs.declared.token_kind.TokenKind.TheVariants as kinds
 use Rattle.justfile_model.specs.Grammars.Conditions.{Conditions}
 use Rattle.justfile_model.specs.Grammars.Docs.{LineEnd, Nothing, documented}
@@ -12,21 +11,20 @@ use Rattle.justfile_model.specs.Grammars.Grammar as g
 use Rattle.justfile_model.specs.Grammars.Grammar.{File, Items, TokenProjection}
 use Rattle.justfile_model.specs.LiteralTexts.Literals.{AreCookedTexts, Literal}
 use Rattle.justfile_model.specs.Lexing.Modes.{tail_of}
-use Rattle.justfile_model.specs.Lexing.SignificantTokens.{SignificantToken, is_whitespace}
+use Rattle.justfile_model.specs.Lexing.SignificantTokens.{SignificantToken}
 use Rattle.justfile_model.specs.Trees.LeafView.{LeafView}
 use Rattle.justfile_model.specs.Trees.Tree as tree
 use Rattle.justfile_model.specs.Trees.Tree.{OrderedItem, WrittenItem}
 use Rattle.justfile_model.proofs.Derivations.CookedTexts.{literals_append}
 use Rattle.justfile_model.proofs.Lists.Binds.{some_back}
 use Rattle.justfile_model.proofs.Meanings.Ordered.{meanings_of, undocumented_of}
-use Rattle.justfile_chunks.specs.Chunks.{next_kind}
 use Rattle.justfile_chunks.proofs.AlikeItems.{alike_after, alike_apart, alike_of, before_next_is}
 use Rattle.justfile_chunks.proofs.DocsAppend.{before_next, documented_append}
 use Rattle.justfile_chunks.proofs.ItemsAppend.{cooked_apart, cooked_append, features_append, unbroken_apart, unbroken_append, undocumented_apart, undocumented_append}
 use Rattle.justfile_chunks.proofs.ItemsFeatures.{file_features}
-use Rattle.justfile_chunks.proofs.Joins.{after_end, begins_none, file_apart, file_end, file_joined, file_split}
-use Rattle.justfile_chunks.proofs.Over.{is_quiet, other_end}
-use Rattle.justfile_chunks.proofs.Passes.{At, CutHere, FirstQuiet, bare, clash, here, later}
+use Rattle.justfile_chunks.proofs.Joins.{after_end, file_joined, file_split}
+use Rattle.justfile_chunks.proofs.Over.{other_end}
+use Rattle.justfile_chunks.proofs.Passes.{At, CutHere, here, later}
 
 -- ---- tokens before others
 
@@ -38,17 +36,6 @@ behind earlier (t ∷ ts) = behind (t ∷ earlier) ts
 pub at_of : (K : Tokens → Type 0) (ts earlier : Tokens) (u : SignificantToken) (x : Tokens) → K (behind earlier ts) → At K u x earlier (ts ++ (u ∷ x))
 at_of K [] earlier u x k = here k
 at_of K (t ∷ ts) earlier u x k = later (at_of K ts (t ∷ earlier) u x k)
-
-quiet_next : (k : TokenKind) (o : Option TokenKind) → is_quiet k ≡ true → cond (is_whitespace k) o (Some k) ≡ Some k
-quiet_next kinds.Whitespace o q = cc
-quiet_next _ o q = refl
-
-not_quiet : (us : Tokens) → (next_kind (bare us) ≡ Some kinds.Comment) ⊎ (next_kind (bare us) ≡ Some kinds.Eol) → FirstQuiet us → ⊥
-not_quiet [] c q = q
-not_quiet (t ∷ us) c q = ⊎_elim (λ e. loud kinds.Comment refl e) (λ e. loud kinds.Eol refl e) c
-  where
-    loud : (k : TokenKind) → is_quiet k ≡ false → next_kind (bare (t ∷ us)) ≡ Some k → ⊥
-    loud k l e = clash (ap is_quiet (some_back t.tok.kind k (sym (quiet_next t.tok.kind (next_kind (bare us)) q) ∙ e)) ∙ l) q
 
 -- ---- items
 
@@ -122,18 +109,14 @@ module _ {A B C : Type 0} (projection : TokenProjection A B C B) (conditions : C
   without_end {all = all} kind d =
       let a = after_end projection May d.derives kind in
       let p = past_end a.others (tree.Newline ∷ all) (sym (ap (ordered view) a.items_are) ∙ d.ordered_is) in
-      record {
-        written = a.others;
-        by_construct = d.by_construct;
-        derives = a.derives;
-        features_are = d.features_are ∙ ap (λ w. all_features view w d.by_construct) a.items_are;
-        cooked = d.cooked;
-        cooks = subst (λ w. AreCookedTexts conditions.expander (texts (all_literals w)) d.cooked) a.items_are d.cooks;
-        unbroken = sym (ap (broken conditions.current view) a.items_are) ∙ d.unbroken;
-        items = p.items;
-        items_are = p.items_are;
-        all_is = ap tail_of p.all_is;
-      }
+      search (
+        d.features_are ∙ ap (λ w. all_features view w d.by_construct) a.items_are,
+        subst (λ w. AreCookedTexts conditions.expander (texts (all_literals w)) d.cooked) a.items_are d.cooks,
+        sym (ap (broken conditions.current view) a.items_are) ∙ d.unbroken,
+        ap tail_of p.all_is,
+        a,
+        p,
+      )
 
   module _ (ts : Tokens) (eof : SignificantToken) (is_eof : IsKind kinds.Eof eof) (us : Tokens) (k : CutHere us (behind [] ts)) where
     -- the docs of items before a cut and after it
@@ -141,13 +124,12 @@ module _ {A B C : Type 0} (projection : TokenProjection A B C B) (conditions : C
         → File projection May first fs (ts ++ (eof ∷ [])) → Items projection May second gs us → undocumented view first ≡ Some some
         → undocumented view second ≡ Some more
         → documented sets_doc Nothing (some ++ more) ≡ documented sets_doc Nothing some ++ documented sets_doc LineEnd more
-    docs {first = first} {second = second} {some = some} {more = more} f s e e2 =
-        let at = at_of (CutHere us) ts [] eof [] k in
-        let apart = file_apart projection May eof is_eof us second (λ c. begins_none projection May s (not_quiet us c)) f at in
+    docs {first = first} {second = second} {gs = gs} {some = some} {more = more} f s e e2 =
+        let j = file_joined projection May eof is_eof us second gs s f (at_of (CutHere us) ts [] eof [] k) in
         let a = alike_of view first some e in
         let end : before_next sets_doc Nothing some ≡ LineEnd =
-        before_next_is sets_doc Nothing some ∙ sym (alike_after a Nothing) ∙ file_end projection May eof is_eof us f at in
-        documented_append sets_doc Nothing some more (alike_apart a (alike_of view second more e2) Nothing apart)
+        before_next_is sets_doc Nothing some ∙ sym (alike_after a Nothing) ∙ j.ends Nothing (λ e. absurd (j.cut e)) in
+        documented_append sets_doc Nothing some more (alike_apart a (alike_of view second more e2) Nothing (j.apart Nothing))
         ∙ ap (λ b. documented sets_doc Nothing some ++ documented sets_doc b more) end
 
     -- What the tokens before a cut derive and what those after it derive is derived together.
@@ -205,28 +187,8 @@ module _ {A B C : Type 0} (projection : TokenProjection A B C B) (conditions : C
         right = documented sets_doc LineEnd a.more;
         left_features = all_features view s.first s.first_features;
         right_features = all_features view s.second s.second_features;
-        left_derives = record {
-          written = s.first;
-          by_construct = s.first_features;
-          derives = first;
-          features_are = refl;
-          cooked = c.0;
-          cooks = c.2;
-          unbroken = b.0;
-          ordered_is = ap (option_map (documented sets_doc Nothing)) a.first_is;
-        };
-        right_derives = record {
-          written = s.second;
-          by_construct = s.second_features;
-          derives = s.second_derives;
-          features_are = refl;
-          cooked = c.1;
-          cooks = c.3;
-          unbroken = b.1;
-          items = a.more;
-          items_are = a.more_is;
-          all_is = refl;
-        };
+        left_derives = search (first, c, b, ap (option_map (documented sets_doc Nothing)) a.first_is);
+        right_derives = search (s, c, b, a);
         all_is = o.all_are ∙ ap (documented sets_doc Nothing) a.all_are ∙ docs ts eof is_eof (u ∷ x) k first s.second_derives a.first_is a.more_is;
         features_are =
             d.features_are ∙ (λ i. all_features view (s.items_are i) (s.features_are i))

@@ -63,7 +63,6 @@ line_kept : (k : TokenKind) (t : Tok) (m : Mode) (following : List ℕ) (line : 
     → (m.line_start ≡ true → nested m ≡ false → m.in_body ≡ true → line ≡ None)
     → (mode_after k t m).line_start ≡ true → nested (mode_after k t m) ≡ false → (mode_after k t m).in_body ≡ true → line_with k line ≡ None
 line_kept kinds.Eol t m following line f h s n b = refl
-line_kept kinds.Dedent t m following line f h s n b = cc
 line_kept kinds.Whitespace t m following line f h s n b = absurd (blanks_end t.lexeme following s (f b n))
 line_kept _ t m following line f h s n b = cc
 

@@ -1,8 +1,7 @@
 -- The indentation is the longest shared run of blanks, and a text that shares none is unchanged.
-use Rattle.std.proofs.Common.{◌≡◌, ℕ, ◌<◌, ◌≤◌, true, false, List, [], ◌∷◌, ◌++◌, map, length, drop, refl, sym, ap, ◌∙◌, subst, inl, inr, arith, one-add, eq-eqb}
-use Rattle.std.specs.Prelude.{◌==◌}
+use Rattle.std.proofs.Common.{◌≡◌, ℕ, ◌<◌, ◌≤◌, true, false, List, [], ◌∷◌, ◌++◌, map, length, drop, refl, sym, ap, ◌∙◌, subst, inl, inr, arith, one-add}
 use Rattle.std.specs.List.{AllByRecursion, list_all, list_any}
-use Rattle.std.proofs.lemmas.Bool.{and_from, and_parts, cases_Bool, or_parts}
+use Rattle.std.proofs.lemmas.Bool.{and_parts, cases_Bool, or_parts}
 use Rattle.std.proofs.lemmas.List.Elements.{recursion_from_All}
 use Rattle.justfile_vocabulary.specs.Indentation.{is_space_or_tab}
 use Rattle.justfile_model.specs.LiteralTexts.Unindent.{IsFront, IsIndented, IsLongestRun, is_first, common_front, indentation, is_blank_line, joined, leading_blanks, lines_of_text, shared_front, unindented}
@@ -20,10 +19,7 @@ begins_split b c front text h =
 heads : (b : ℕ) (front : List ℕ) (texts : List (List ℕ)) → AllByRecursion (IsFront (b ∷ front)) texts → (list_all (is_first b) texts ≡ true) × AllByRecursion (IsFront front) (map (drop 1) texts)
 heads b front [] h = (refl, tt)
 heads b front ([] ∷ texts) h = absurd (cc)
-heads b front ((c ∷ cs) ∷ texts) h =
-    let more = heads b front texts h.1 in
-    let first = begins_split b c front cs h.0 in
-    (and_from (b == c) _ (eq-eqb b c (sym first.0)) more.0, (first.1, more.1))
+heads b front ((c ∷ cs) ∷ texts) h = grind (arith, heads b front texts)
 
 shared_longest : (front run : List ℕ) (others : List (List ℕ)) → IsFront front run → AllByRecursion (IsFront front) others → length front ≤ length (shared_front run others)
 shared_longest [] run others h k = omega arith
@@ -45,21 +41,15 @@ common_blank (run ∷ others) h = shared_blank run others h.0
 -- ---- the leading blanks of the lines that are not blank
 kept_blank : (ls : List (List ℕ)) → AllByRecursion (λ text. list_all is_space_or_tab text ≡ true) (kept_blanks ls)
 kept_blank [] = tt
-kept_blank (line ∷ ls) = elim (cases_Bool (is_blank_line line)) [
-  | inl h ↦ rw h (kept_blank ls)
-  | inr h ↦ rw h (leading_blank line, kept_blank ls)
-]
+kept_blank (line ∷ ls) = grind (arith, kept_blank ls, leading_blank line)
 
 kept_none : (ls : List (List ℕ)) → list_all is_blank_line ls ≡ true → kept_blanks ls ≡ []
 kept_none [] h = refl
-kept_none (line ∷ ls) h = let p = and_parts (is_blank_line line) (list_all is_blank_line ls) h in rw p.0 (kept_none ls p.1)
+kept_none (line ∷ ls) h = grind (arith, kept_none ls)
 
 kept_some : (ls : List (List ℕ)) → list_all is_blank_line ls ≡ false → 0 < length (kept_blanks ls)
 kept_some [] h = absurd (cc)
-kept_some (line ∷ ls) h = elim (cases_Bool (is_blank_line line)) [
-  | inl e ↦ rw e (kept_some ls (rw e at h))
-  | inr e ↦ rw e (omega arith)
-]
+kept_some (line ∷ ls) h = grind (arith, kept_some ls)
 
 -- a run of blanks at the front of a line is at the front of its leading blanks
 blanks_begin : (front line : List ℕ) → list_all is_space_or_tab front ≡ true → IsFront front line → IsFront front (leading_blanks line)

@@ -1,7 +1,7 @@
 -- Lists of pieces, parsed one after another.
 use Rattle.std.proofs.Common.{zero, suc, ◌≡◌, ℕ, ◌+◌, ◌<◌, ◌≤◌, List, [], ◌∷◌, ◌++◌, length, Option, Ok, Err, refl, sym, ap, subst, ◌∙◌, arith, append_assoc, append-nil, length-append}
 use Rattle.std.specs.Prelude.{flat_map, option_to_list}
-use Rattle.justfile_model.specs.LiteralTexts.Cook.{AreEscapedPieces, BadPiece, CarriageReturnLineFeed, Empty, EndsAtBackslash, EndsAtU, EndsInBraces, IsBad, LineFeed, Named, NoDigit, OutOfRange, Piece, Plain, TooLong, Unicode, Unknown, Unopened, bad_text, fault_of, raw_of, value_of}
+use Rattle.justfile_model.specs.LiteralTexts.Cook.{AreEscapedPieces, BadPiece, IsBad, Piece, bad_text, fault_of, raw_of, value_of}
 use Rattle.justfile_model.specs.LiteralTexts.EscapeFault.{EscapeFault}
 use Rattle.justfile_model.specs.LiteralTexts.FirstPiece.{Cooked, PieceRead, cook, cook_within, go_on, first_escaped_piece, with_value}
 use Rattle.justfile_literal.proofs.Complete.{bad_front, front, good_front}
@@ -54,11 +54,7 @@ whole_more cs rest value (Err fault) b w = record {
 
 -- a piece has a character
 piece_len : (p : Piece) → 0 < length (raw_of p)
-piece_len (Plain c) = omega arith
-piece_len (Named c value) = omega arith
-piece_len LineFeed = omega arith
-piece_len CarriageReturnLineFeed = omega arith
-piece_len (Unicode hex) = omega arith
+piece_len p = grind arith
 
 pub begins_shorter : (cs rest : List ℕ) (value : Option ℕ) → Begins cs value rest → length rest < length cs
 begins_shorter cs rest value b = omega (arith, piece_len b.piece, length-append (raw_of b.piece) rest, ap length b.text_is)
@@ -90,8 +86,7 @@ one_value value first values (Ok out) e = ap (λ (l : List ℕ). Ok (l ++ (value
 one_value value first values (Err fault) e = refl
 
 no_values : (r : Cooked) → with_values [] r ≡ r
-no_values (Ok out) = refl
-no_values (Err fault) = refl
+no_values r = grind arith
 
 -- what is read of some characters, however many pieces are allowed
 abbrev Reads : List ℕ → Cooked → Type 0
@@ -117,15 +112,7 @@ reads_empty zero le = refl
 reads_empty (suc most) le = refl
 
 bad_len : (bad : BadPiece) → 0 < length (bad_text bad)
-bad_len (Unknown c) = omega arith
-bad_len (Unopened c) = omega arith
-bad_len Empty = omega arith
-bad_len (NoDigit hex c) = omega arith
-bad_len (TooLong hex) = omega arith
-bad_len (OutOfRange hex) = omega arith
-bad_len EndsAtBackslash = omega arith
-bad_len EndsAtU = omega arith
-bad_len (EndsInBraces hex) = omega arith
+bad_len bad = grind arith
 
 reads_bad : (bad : BadPiece) (later : List ℕ) → IsBad bad later → Reads (bad_text bad ++ later) (Err (fault_of bad))
 reads_bad bad later h zero le = absurd (omega (arith, bad_len bad, length-append (bad_text bad) later))

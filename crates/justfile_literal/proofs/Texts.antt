@@ -1,8 +1,8 @@
 -- Texts of bytes.
-use Rattle.std.proofs.Common.{◌≡◌, ℕ, List, [], ◌∷◌, ◌++◌, ◌⊎◌, inl, inr, Bool, true, false, ◌==◌, if◌then◌else◌, Option, Some, None, Ok, Err, IsUtf8, refl, sym, ap, subst, ◌∙◌, arith}
+use Rattle.std.proofs.Common.{◌≡◌, ℕ, List, [], ◌∷◌, ◌++◌, ◌⊎◌, inl, inr, true, Some, Ok, Err, IsUtf8, refl, sym, ap, subst, ◌∙◌, arith}
 use Rattle.std.specs.Prelude.{chars, encode_utf8_all, flat_map}
 use Rattle.std.specs.Str.{all_scalars}
-use Rattle.std.proofs.lemmas.Bool.{and_parts, and_from}
+use Rattle.std.proofs.lemmas.Bool.{and_from}
 use Rattle.std.proofs.lemmas.Str.{encodes_same, encodes-chars}
 use Rattle.justfile_model.specs.LiteralTexts.Cook.{AreEscapedPieces, CarriageReturnLineFeed, Cooks, IsPiece, LineFeed, Named, Piece, Plain, Refused, Unicode, named, raw_of, value_of}
 use Rattle.justfile_model.specs.LiteralTexts.EscapeFault.{EscapeFault}
@@ -69,28 +69,14 @@ answered text u = by_read (cooked_from_left text) (text_meant text u)
 
 scalars_parts : (xs ys : List ℕ) → all_scalars (xs ++ ys) ≡ true → (all_scalars xs ≡ true) × (all_scalars ys ≡ true)
 scalars_parts [] ys h = (refl, h)
-scalars_parts (x ∷ xs) ys h =
-    let both = and_parts _ _ h in
-    let more = scalars_parts xs ys both.1 in
-    (and_from _ _ both.0 more.0, more.1)
+scalars_parts (x ∷ xs) ys h = grind (arith, scalars_parts xs ys)
 
 scalars_joined : (xs ys : List ℕ) → all_scalars xs ≡ true → all_scalars ys ≡ true → all_scalars (xs ++ ys) ≡ true
 scalars_joined [] ys h k = k
-scalars_joined (x ∷ xs) ys h k = let both = and_parts _ _ h in and_from _ _ both.0 (scalars_joined xs ys both.1 k)
+scalars_joined (x ∷ xs) ys h k = grind (arith, scalars_joined xs ys)
 
 named_scalar : (c value : ℕ) → named c ≡ Some value → all_scalars (value ∷ []) ≡ true
-named_scalar c value e = by_test (c == 110) (c == 114) (c == 116) (c == 92) (c == 34) e
-  where
-    known : (one other : ℕ) → all_scalars (one ∷ []) ≡ true → ◌≡◌ {A = Option ℕ} (Some one) (Some other) → all_scalars (other ∷ []) ≡ true
-    known one other h k = let same : one ≡ other = cc in subst (λ (x : ℕ). all_scalars (x ∷ []) ≡ true) same h
-
-    by_test : (n r t b q : Bool) → (if n then Some 10 else if r then Some 13 else if t then Some 9 else if b then Some 92 else if q then Some 34 else None) ≡ Some value → all_scalars (value ∷ []) ≡ true
-    by_test true r t b q e = known 10 value refl e
-    by_test false true t b q e = known 13 value refl e
-    by_test false false true b q e = known 9 value refl e
-    by_test false false false true q e = known 92 value refl e
-    by_test false false false false true e = known 34 value refl e
-    by_test false false false false false e = absurd (cc)
+named_scalar c value e = grind arith
 
 value_scalars : (p : Piece) → IsPiece p → all_scalars (raw_of p) ≡ true → all_scalars (value_of p) ≡ true
 value_scalars (Plain c) good h = h

@@ -1,11 +1,11 @@
 -- Texts that are what is between the quotes: these aren't tripled, and no backslash is between them.
-use Rattle.std.proofs.Common.{◌≡◌, ◌∙◌, ℕ, ◌==◌, if◌then◌else◌, Bool, true, false, List, [], ◌∷◌, Option, None, Ok, refl, ap, subst, sym}
+use Rattle.std.proofs.Common.{◌≡◌, ◌∙◌, ℕ, ◌==◌, if◌then◌else◌, Bool, true, false, List, [], ◌∷◌, None, Ok, refl, ap, subst, sym}
 use Rattle.std.specs.Prelude.{flat_map, map, encode_utf8_all}
 use Rattle.std.specs.Str.{NonePass}
 use Rattle.std.specs.Str.Pattern.{FindsChar}
 use Rattle.justfile_token.specs.declared.string_kind.StringKind.{StringKind}
 use Rattle.justfile_token.specs.StringKind.{escapes, kind_of}
-use Rattle.justfile_model.specs.LiteralTexts.Cook.{AreEscapedPieces, Cooks, IsPiece, Piece, Plain, raw_of, value_of}
+use Rattle.justfile_model.specs.LiteralTexts.Cook.{AreEscapedPieces, Cooks, IsPiece, Plain, raw_of, value_of}
 use Rattle.justfile_model.specs.LiteralTexts.FirstPiece.{cooked_from_left}
 use Rattle.justfile_model.specs.LiteralTexts.Literals.{between_quotes, by_escapes, escaped, string_text}
 use Rattle.justfile_model.specs.LiteralTexts.Unindent.{unindented}

@@ -1,14 +1,14 @@
 -- Hexadecimal digits at the start of a text of bytes, and their number.
 use Rattle.std.proofs.Common.{zero, suc, ◌≡◌, ◌≢◌, ℕ, ◌+◌, ◌^◌, ◌<◌, ◌≤◌, true, false, List, [], ◌∷◌, ◌++◌, length, get_or, take, drop, Result, Err, IsUtf8, refl, sym, ap, ap₂, subst, ◌∙◌, cond, nat_lt, add-one, arith}
 use Rattle.std.specs.Prelude.{chars, encode_utf8_all}
-use Rattle.std.specs.Char.{IsScalar, digit_value, is_ascii_hexdigit}
+use Rattle.std.specs.Char.{IsScalar, is_ascii_hexdigit}
 use Rattle.std.specs.Str.{IsCharBoundary, all_scalars}
 use Rattle.std.specs.Str.Parse.{AllDigits, ParsesUnsigned, digits_value}
 use Rattle.std.proofs.Math.Seq.{drop-cons, take-suc}
 use Rattle.std.proofs.Math.Utf8.{scalar_fits}
 use Rattle.std.proofs.lemmas.Bool.{and_parts, cond-false, cond-true, le-ltb, lt-ltb}
 use Rattle.std.proofs.lemmas.Bool.Decides.{nat_tests}
-use Rattle.std.proofs.lemmas.List.{length-take-le, take-append-drop}
+use Rattle.std.proofs.lemmas.List.{length-take, length-take-le, take-append-drop}
 use Rattle.std.proofs.lemmas.Str.{IsCharBoundary-from_drop, chars-encodes, encode_ascii, encodes-chars, scalars-chars}
 use Rattle.std.proofs.lemmas.Str.Parse.{without_leading_plus_none}
 use Rattle.justfile_model.specs.LiteralTexts.Cook.{AreHex}
@@ -62,11 +62,6 @@ drop_scalars zero cs h = h
 drop_scalars (suc n) [] h = h
 drop_scalars (suc n) (c ∷ cs) h = drop_scalars n cs (and_parts _ _ h).1
 
-length-take-within : (n : ℕ) (l : List ℕ) → length (take n l) ≤ length l
-length-take-within zero l = omega arith
-length-take-within (suc n) [] = omega arith
-length-take-within (suc n) (x ∷ l) = omega (arith, length-take-within n l)
-
 -- a text may be cut after the digits at its front
 pub record Cut (text : List ℕ) (n : ℕ) : Type 0 where
   pub front : take n text ≡ take n (chars text)
@@ -82,7 +77,7 @@ cut_is text n u h le =
     let scalars = drop_scalars n (chars text) (scalars-chars text u) in
     let back : drop n text ≡ encode_utf8_all (drop n (chars text)) = ap (drop n) (sym whole) ∙ cut.1 in
     let front : take n text ≡ take n (chars text) = ap (take n) (sym whole) ∙ cut.0 in
-    let within : n ≤ length text = omega (arith, ap length front, length-take-le n (chars text) le, length-take-within n text) in
+    let within : n ≤ length text = omega (arith, ap length front, length-take-le n (chars text) le, length-take n text) in
     let utf8 : IsUtf8 (drop n text) = (drop n (chars text), (scalars, sym back)) in
     record {
       front = front;
@@ -95,7 +90,7 @@ cut_is text n u h le =
 pub cut_digits : (text : List ℕ) (n : ℕ) → IsUtf8 text → n ≡ hex_len (chars text) → Cut text n
 cut_digits text n u e =
     let front = hex_front 7 (chars text) in
-    subst (Cut text) (sym e) (cut_is text (hex_len (chars text)) u front.front (omega (arith, front.front_len, length-take-within (hex_len (chars text)) (chars text))))
+    subst (Cut text) (sym e) (cut_is text (hex_len (chars text)) u front.front (omega (arith, front.front_len, length-take (hex_len (chars text)) (chars text))))
 
 pub digits_hex : (text : List ℕ) (n : ℕ) (hex : List ℕ) → n ≡ hex_len (chars text) → Cut text n → hex ≡ take n text → AreHex hex
 digits_hex text n hex e cut is = subst AreHex (sym (is ∙ cut.front)) (rw e (hex_front 7 (chars text)).front)
@@ -115,10 +110,7 @@ few text n hex later e cut is rest le =
 
 digits_of_hex : (hex : List ℕ) → AreHex hex → AllDigits 16 hex
 digits_of_hex [] h = tt
-digits_of_hex (c ∷ hex) h = (small c h.0, digits_of_hex hex h.1)
-  where
-    small : (c : ℕ) → is_ascii_hexdigit c ≡ true → digit_value c < 16
-    small c e = grind (arith, nat_tests)
+digits_of_hex (c ∷ hex) h = (grind (arith, nat_tests, h.0), digits_of_hex hex h.1)
 
 no_plus : (hex : List ℕ) → AreHex hex → get_or hex 0 0 ≢ 43
 no_plus [] h e = absurd (omega arith)

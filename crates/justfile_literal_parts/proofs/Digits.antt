@@ -1,5 +1,5 @@
 -- Hexadecimal digits at the start of a text of characters.
-use Rattle.std.proofs.Common.{zero, suc, ◌≡◌, ℕ, ◌+◌, ◌<◌, ◌≤◌, Bool, true, false, cond, List, [], ◌∷◌, ◌++◌, length, take, drop, refl, ap, subst, arith}
+use Rattle.std.proofs.Common.{zero, suc, ◌≡◌, ℕ, ◌+◌, ◌<◌, ◌≤◌, Bool, true, false, cond, List, [], ◌∷◌, ◌++◌, length, take, drop, refl, sym, ap, subst, arith, one-add}
 use Rattle.std.specs.List.{prefix_len}
 use Rattle.std.specs.Char.{is_ascii_hexdigit}
 use Rattle.justfile_model.specs.LiteralTexts.Cook.{AreHex}
@@ -20,13 +20,10 @@ pub record HexFront (most : ℕ) (cs : List ℕ) (n : ℕ) : Type 0 where
   pub front_len : length (take n cs) ≡ n
   pub stop : n < most → is_hex_head (drop n cs) ≡ false
 
-one_more : (n : ℕ) → suc n ≡ 1 + n
-one_more n = omega arith
-
 by_head : (most c : ℕ) (cs : List ℕ) → HexFront most cs (hex_upto most cs) → (digit : Bool) → is_ascii_hexdigit c ≡ digit → HexFront (suc most) (c ∷ cs) (cond digit (1 + hex_upto most cs) 0)
 by_head most c cs more false e = record { bound = omega arith; front = tt; front_len = refl; stop = λ h. e }
 by_head most c cs more true e =
-    subst (HexFront (suc most) (c ∷ cs)) (one_more (hex_upto most cs)) record { bound = omega (arith, more.bound); front = (e, more.front); front_len = ap suc more.front_len; stop = λ h. more.stop (omega arith) }
+    subst (HexFront (suc most) (c ∷ cs)) (sym (one-add (hex_upto most cs))) record { bound = omega (arith, more.bound); front = (e, more.front); front_len = ap suc more.front_len; stop = λ h. more.stop (omega arith) }
 
 pub hex_front : (most : ℕ) (cs : List ℕ) → HexFront most cs (hex_upto most cs)
 hex_front zero cs = record { bound = omega arith; front = tt; front_len = refl; stop = λ h. absurd (omega arith) }

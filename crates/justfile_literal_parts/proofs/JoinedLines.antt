@@ -5,7 +5,7 @@ use Rattle.std.specs.Bool.{if◌then◌else◌}
 use Rattle.std.specs.List.{flat_map, concat, list_any}
 use Rattle.std.proofs.lemmas.Bool.{or_parts}
 use Rattle.std.proofs.lemmas.List.{map_push}
-use Rattle.justfile_model.specs.LiteralTexts.Unindent.{is_blank_line, joined, lines_of_text, later_lines, middle_line, outer_line}
+use Rattle.justfile_model.specs.LiteralTexts.Unindent.{is_blank_line, joined, later_lines, middle_line, outer_line}
 
 pub later_push : (run : List ℕ) (middle : List (List ℕ)) (last : List ℕ) → later_lines run (middle ++ last ∷ []) ≡ flat_map (middle_line run) middle ++ outer_line run last
 later_push run [] last = refl

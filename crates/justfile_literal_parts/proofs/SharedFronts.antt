@@ -1,10 +1,10 @@
 -- The shared prefix of texts and the indentation of lines, computed line by line.
-use Rattle.std.proofs.Common.{◌≡◌, ℕ, zero, suc, ◌+◌, ◌<◌, ◌≤◌, Bool, true, false, cond, not, List, [], ◌∷◌, ◌++◌, map, length, get_or, take, drop, nat_eq, eqb, refl, sym, ap, ◌∙◌, inl, inr, arith, one-add, append_assoc, append-nil, eqb-true, length-append, Some, None, Option, Bor}
+use Rattle.std.proofs.Common.{◌≡◌, ℕ, zero, suc, ◌+◌, ◌<◌, ◌≤◌, Bool, true, false, cond, not, add-one, List, [], ◌∷◌, ◌++◌, map, length, get_or, take, drop, nat_eq, eqb, refl, sym, ap, ◌∙◌, inl, inr, arith, one-add, append_assoc, append-nil, eqb-true, length-append, Some, None, Option, Bor}
 use Rattle.std.specs.Prelude.{◌==◌}
 use Rattle.std.specs.List.{All, AllByRecursion, zip, common_prefix_len, filter, list_all, prefix_len}
 use Rattle.std.specs.Str.{IsCharBoundary, IsUtf8}
 use Rattle.std.specs.Option.{MatchOption}
-use Rattle.std.proofs.lemmas.Bool.{and_parts, cases_Bool, cases_lt}
+use Rattle.std.proofs.lemmas.Bool.{and_parts, cases_Bool}
 use Rattle.std.proofs.lemmas.Bool.Decides.{nat_tests}
 use Rattle.std.proofs.lemmas.List.{get_or-map, length-map, get_or_past, map-append, take-append-drop}
 use Rattle.std.proofs.lemmas.List.Folds.{list_all-append}
@@ -13,14 +13,11 @@ use Rattle.std.proofs.lemmas.List.Elements.{All-from_recursion}
 use Rattle.std.proofs.lemmas.List.Prefix.{front_rest}
 use Rattle.std.proofs.lemmas.Str.{IsCharBoundary-start, IsCharBoundary-after_ascii, IsCharBoundary-from_ascii}
 use Rattle.justfile_vocabulary.specs.Indentation.{is_space_or_tab}
-use Rattle.justfile_model.specs.LiteralTexts.Unindent.{IsFront, IsIndented, is_first, common_front, indentation, is_blank_line, leading_blanks, lines_of_text, shared_front}
+use Rattle.justfile_model.specs.LiteralTexts.Unindent.{IsFront, IsIndented, is_first, common_front, indentation, is_blank_line, leading_blanks, shared_front}
 
 -- ---- runs of blanks
 blank_ascii : (b : ℕ) → is_space_or_tab b ≡ true → b < 128
 blank_ascii b h = grind (arith, nat_tests)
-
-one_more : (n : ℕ) → n + 1 ≡ suc n
-one_more n = omega arith
 
 -- a text may be cut after the blanks at its front
 pub blanks_cut : (bs : List ℕ) → IsUtf8 bs → IsCharBoundary bs (prefix_len is_space_or_tab bs)
@@ -30,14 +27,14 @@ blanks_cut bs u = go (prefix_len is_space_or_tab bs) refl
     go zero e = IsCharBoundary-start bs u
     go (suc n) e =
         let fits : suc n ≤ length bs = omega (arith, e, prefix_len-le-length is_space_or_tab bs) in
-        rw (← one_more n) (IsCharBoundary-after_ascii bs n u (omega arith) (blank_ascii _ (prefix_len_passes is_space_or_tab bs n 0 (omega (arith, e)))))
+        rw (← add-one n) (IsCharBoundary-after_ascii bs n u (omega arith) (blank_ascii _ (prefix_len_passes is_space_or_tab bs n 0 (omega (arith, e)))))
 
 -- and a run of blanks anywhere
 pub run_cut : (run : List ℕ) (n : ℕ) → list_all is_space_or_tab run ≡ true → n ≤ length run → IsCharBoundary run n
 run_cut run n h l = IsCharBoundary-from_ascii run n ascii l
   where
     ascii : (i : ℕ) → get_or run i 0 < 128
-    ascii i = elim (cases_lt i (length run)) [ inl k ↦ blank_ascii _ (AllPass-from_list_all is_space_or_tab run h i 0 k) | inr k ↦ rw (get_or_past run i 0 k) (omega arith) ]
+    ascii i = grind (arith, AllPass-from_list_all is_space_or_tab run h, get_or_past run, blank_ascii)
 
 pub leading_blank : (line : List ℕ) → list_all is_space_or_tab (leading_blanks line) ≡ true
 leading_blank [] = refl
@@ -57,12 +54,7 @@ shared_two (b ∷ bs) (c ∷ cs) = elim (cases_Bool (b == c)) [
 
 pub shared_blank : (run : List ℕ) (others : List (List ℕ)) → list_all is_space_or_tab run ≡ true → list_all is_space_or_tab (shared_front run others) ≡ true
 shared_blank [] others h = refl
-shared_blank (b ∷ bs) others h =
-    let p = and_parts (is_space_or_tab b) (list_all is_space_or_tab bs) h in
-    elim (cases_Bool (list_all (is_first b) others)) [
-      | inl e ↦ rw (e, p.0) (shared_blank bs (map (drop 1) others) p.1)
-      | inr e ↦ rw e refl
-    ]
+shared_blank (b ∷ bs) others h = grind (arith, shared_blank bs (map (drop 1) others))
 
 shared_alone : (run : List ℕ) → shared_front run [] ≡ run
 shared_alone [] = refl
@@ -71,14 +63,7 @@ shared_alone (b ∷ bs) = ap (λ v. b ∷ v) (shared_alone bs)
 -- one more text
 pub shared_push : (run : List ℕ) (others : List (List ℕ)) (x : List ℕ) → shared_front run (others ++ x ∷ []) ≡ shared_front (shared_front run others) (x ∷ [])
 shared_push [] others x = refl
-shared_push (b ∷ bs) others x =
-    elim (cases_Bool (list_all (is_first b) others)) [
-      | inl h ↦ elim (cases_Bool (is_first b x)) [
-        | inl k ↦ rw (list_all-append, map-append, h, k) (ap (λ t. b ∷ t) (shared_push bs (map (drop 1) others) (drop 1 x)))
-        | inr k ↦ rw (list_all-append, h, k) refl
-      ]
-      | inr h ↦ rw (list_all-append, h) refl
-    ]
+shared_push (b ∷ bs) others x = grind (arith, list_all-append, map-append, shared_push bs (map (drop 1) others) (drop 1 x))
 
 pub common_push : (kept : List (List ℕ)) (x : List ℕ) → 0 < length kept → common_front (kept ++ x ∷ []) ≡ shared_front (common_front kept) (x ∷ [])
 common_push [] x h = absurd (omega arith)
@@ -108,10 +93,7 @@ begins_more b front ((c ∷ cs) ∷ texts) h k =
 
 first_begins : (run : List ℕ) (others : List (List ℕ)) → IsFront (shared_front run others) run
 first_begins [] others = refl
-first_begins (b ∷ bs) others = elim (cases_Bool (list_all (is_first b) others)) [
-  | inl h ↦ rw h (λ i. b ∷ first_begins bs (map (drop 1) others) i)
-  | inr h ↦ rw h refl
-]
+first_begins (b ∷ bs) others = grind (arith, first_begins bs (map (drop 1) others))
 
 others_begin : (run : List ℕ) (others : List (List ℕ)) → AllByRecursion (IsFront (shared_front run others)) others
 others_begin [] others = each_begins others
@@ -131,11 +113,8 @@ kept_blanks ls = map leading_blanks (filter (λ line. not (is_blank_line line)) 
 
 -- one line more
 kept_push : (ls : List (List ℕ)) (line : List ℕ) → kept_blanks (ls ++ line ∷ []) ≡ kept_blanks ls ++ cond (is_blank_line line) [] (leading_blanks line ∷ [])
-kept_push [] line = elim (cases_Bool (is_blank_line line)) [ inl h ↦ rw h refl | inr h ↦ rw h refl ]
-kept_push (l ∷ ls) line = elim (cases_Bool (is_blank_line l)) [
-  | inl h ↦ rw h (kept_push ls line)
-  | inr h ↦ rw h (ap (λ v. leading_blanks l ∷ v) (kept_push ls line))
-]
+kept_push [] line = grind arith
+kept_push (l ∷ ls) line = grind (arith, kept_push ls line)
 
 -- the front that the lines so far share, if one of them is not blank
 abbrev pub IsShared : Option (Bor (List ℕ)) → List (List ℕ) → Type 0

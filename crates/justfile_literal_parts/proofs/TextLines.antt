@@ -6,7 +6,7 @@ use Rattle.std.specs.Str.{NoCharPasses}
 use Rattle.std.specs.Str.Iter.{split_inclusive_pattern, split_inclusive_steps, split_inclusive_text}
 use Rattle.std.specs.Str.Pattern.{FindsChar}
 use Rattle.std.specs.Option.{MatchOption}
-use Rattle.std.proofs.lemmas.Bool.{cases_Bool, cases_eq}
+use Rattle.std.proofs.lemmas.Bool.{cases_eq}
 use Rattle.std.proofs.lemmas.Iterator.{YieldsList}
 use Rattle.std.proofs.lemmas.Iterator.Splits.{YieldsList-from_shown_while}
 use Rattle.std.proofs.lemmas.List.{append_cancel_left, get_or_default, nil_from_length, take-append-drop}
@@ -58,13 +58,6 @@ lines_yielded {s} bs text pattern =
     s pattern)
 
 -- ---- the lines are the text
-concat_onto : (b : ℕ) (ls : List (List ℕ)) → concat (onto_first b ls) ≡ b ∷ concat ls
-concat_onto b [] = refl
-concat_onto b (line ∷ ls) = refl
-
 pub lines_whole : (text : List ℕ) → concat (lines_of_text text) ≡ text
 lines_whole [] = refl
-lines_whole (b ∷ bs) = elim (cases_Bool (b == 10)) [
-  | inl h ↦ rw h (ap (λ v. b ∷ v) (lines_whole bs))
-  | inr h ↦ rw h (concat_onto b (lines_of_text bs) ∙ ap (λ v. b ∷ v) (lines_whole bs))
-]
+lines_whole (b ∷ bs) = grind (arith, lines_whole bs)

@@ -2,10 +2,7 @@
 pub mod AttributeProgress
 pub mod Beginnings
 pub mod Carry
-pub mod CarryAttributes
 pub mod CarryExpressions
-pub mod CarryHeaders
-pub mod CarryParts
 pub mod CookedTexts
 pub mod Depth
 pub mod Expanders

@@ -6,7 +6,6 @@ pub mod ColumnLaws
 pub mod CommentEnds
 pub mod Computed
 pub mod CutLemmas
-pub mod FittingTokens
 pub mod LexedLaws
 pub mod LiteralPartLaws
 pub mod ModeLaws

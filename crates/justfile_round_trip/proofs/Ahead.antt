@@ -10,31 +10,27 @@ use Rattle.justfile_model.specs.Grammars.Headers.{PathOf, PathRest}
 use Rattle.justfile_model.specs.Lexing.SignificantTokens.{SignificantToken}
 use Rattle.justfile_model.specs.Trees.Tree.{lexeme, nothing}
 use Rattle.justfile_round_trip.proofs.RecipeBodies.BodyFacts.{Situation, situation_after}
-use Rattle.justfile_round_trip.proofs.RecipeBodies.BodyGood.{IsOutside, Walked, outside_after, quiet_stays, quiet_walk, shifts, walk_past}
+use Rattle.justfile_round_trip.proofs.RecipeBodies.BodyGood.{IsOutside, Walked, outside_after, quiet_stays, shifts}
 use Rattle.justfile_round_trip.proofs.Canon.{Shown, Value}
 use Rattle.justfile_round_trip.proofs.Comments.{good_comment}
-use Rattle.justfile_round_trip.proofs.Good.{GoodComment, GoodExpression, GoodName, GoodNames, GoodPath}
-use Rattle.justfile_round_trip.proofs.Values.TokenFacts.{Around, Known, Sound, around, is_comment, outside}
-use Rattle.justfile_round_trip.proofs.Walks.{quiet, walk_value}
-use Rattle.justfile_round_trip.proofs.Values.WrittenValues.{ValueAt, fact_as, good_expression, one_at, past, value_at}
+use Rattle.justfile_round_trip.proofs.LiteralTexts.Inline.{IsName}
+use Rattle.justfile_round_trip.proofs.Good.{GoodComment, GoodExpression, GoodNames, GoodPath, GoodValue}
+use Rattle.justfile_round_trip.proofs.Values.TokenFacts.{Around, Known, around, is_comment, outside}
+use Rattle.justfile_round_trip.proofs.Values.WrittenValues.{Before, PassedBy, fact_as, good_expression, one_at, past, quiet, value_at}
 
 -- tokens that don't begin or end a body keep this property of the place
 abbrev pub Stays : (Situation → Type 0) → Type 0
 Stays P = (k : TokenKind) (l : List ℕ) (s : Situation) → shifts k ≡ false → P s → P (situation_after k l s)
 
--- Of the tokens outside bodies: what is open around them, and what is known of each of them and of the bodies after them. A comment is the
--- token before them, or not.
-pub record AheadOf (P : Situation → Type 0) (s : Around) (c : Bool) (ts : Tokens) : Type 0 where
-  pub facts : Sound s c ts
-  pub bodies : Walked P ts
+-- of the tokens outside bodies, and of the bodies after them
+abbrev pub AheadOf : (Situation → Type 0) → Around → Bool → Tokens → Type 0
+AheadOf P = Before (Walked P)
 
 abbrev pub Ahead : Around → Bool → Tokens → Type 0
 Ahead = AheadOf IsOutside
 
--- a part that is good, and the properties of the tokens after it
-pub record PassedIn (P : Situation → Type 0) (s : Around) (Good : Type 0) (rest : Tokens) : Type 0 where
-  pub good : Good
-  pub following : AheadOf P s false rest
+abbrev pub PassedIn : (Situation → Type 0) → Around → Type 0 → Tokens → Type 0
+PassedIn P = PassedBy (Walked P)
 
 abbrev pub Passed : Type 0 → Tokens → Type 0
 Passed = PassedIn IsOutside outside
@@ -42,43 +38,33 @@ Passed = PassedIn IsOutside outside
 pub lexed_comment : {s : Around} {c : Bool} (t : SignificantToken) → IsKind kinds.Comment t → Known s c t.tok → GoodComment (trim_end t.tok.lexeme)
 lexed_comment t kind h = good_comment t.tok.lexeme h.utf8 (fact_as t kinds.Comment kind h)
 
-pub lexed_name : {s : Around} {c : Bool} (t : SignificantToken) → IsKind kinds.Identifier t → Known s c t.tok → GoodName t.tok.lexeme
-lexed_name t kind h = record { is_name = fact_as t kinds.Identifier kind h; utf8 = h.utf8 }
+pub lexed_name : {s : Around} {c : Bool} (t : SignificantToken) → IsKind kinds.Identifier t → Known s c t.tok → IsName t.tok.lexeme
+lexed_name t kind h = fact_as t kinds.Identifier kind h
 
 module _ {P : Situation → Type 0} (keep : Stays P) where
   -- after a token that doesn't begin or end a body
+  past_walked : (t : SignificantToken) (ts : Tokens) (k : TokenKind) → IsKind k t → shifts k ≡ false → Walked P (t ∷ ts) → Walked P ts
+  past_walked t ts k e stays w = record {
+    situation = situation_after t.tok.kind t.tok.lexeme w.situation;
+    is = keep t.tok.kind t.tok.lexeme w.situation (ap shifts e ∙ stays) w.is;
+    sound = w.sound.1;
+  }
+
   pub past_ahead : {s : Around} {c : Bool} (t : SignificantToken) (ts : Tokens) (k : TokenKind) → IsKind k t → shifts k ≡ false → AheadOf P s c (t ∷ ts)
       → AheadOf P (around k t.tok.lexeme s) (is_comment k) ts
-  past_ahead {s} t ts k e stays a =
-      let w = a.bodies in
-      record {
-        facts = past s t ts k e a.facts.2;
-        bodies = record {
-          situation = situation_after t.tok.kind t.tok.lexeme w.situation;
-          is = keep t.tok.kind t.tok.lexeme w.situation (ap shifts e ∙ stays) w.is;
-          sound = w.sound.1;
-        };
-      }
+  past_ahead {s} t ts k e stays a = record { facts = past s t ts k e a.facts.2; bodies = past_walked t ts k e stays a.bodies }
 
-  pub keep_quiet : (k : TokenKind) (l : List ℕ) (s : Situation) → quiet k ≡ true → P s → P (situation_after k l s)
-  keep_quiet k l s h = keep k l s (quiet_stays k h)
+  pub quiet_ahead : (k : TokenKind) (t : SignificantToken) (rest : Tokens) → IsKind k t → quiet k ≡ true → Walked P (t ∷ rest) → Walked P rest
+  quiet_ahead k t rest e h w = past_walked t rest k e (quiet_stays k h) w
 
   -- a value that is good, and the tokens after it
-  pub record ValueAhead (s : Around) (v : Value) (rest : Tokens) : Type 0 where
-    pub at : ValueAt s v rest
-    pub following : AheadOf P s false rest
-
   pub value_ahead : (limit : ℕ) {condition : Bool} {d : ℕ} {v : Value} {fs : Shown} {s : Around} {c : Bool} {ts rest : Tokens}
-      → Expression lexeme nothing (BelowLimit limit) condition d v fs ts rest → AheadOf P s c ts → ValueAhead s v rest
-  value_ahead limit {s = s} {c} x a =
-      let v = value_at (BelowLimit limit) x s c a.facts in
-      record { at = v; following = record { facts = v.following; bodies = walk_past P keep_quiet limit x a.bodies } }
+      → Expression lexeme nothing (BelowLimit limit) condition d v fs ts rest → AheadOf P s c ts → PassedIn P s (GoodValue v) rest
+  value_ahead limit {s = s} x a = value_at (BelowLimit limit) (Walked P) quiet_ahead x s a
 
   pub one_ahead : (limit : ℕ) {d : ℕ} {v : Value} {fs : Shown} {s : Around} {c : Bool} {ts rest : Tokens}
-      → e.Value lexeme nothing (BelowLimit limit) d v fs ts rest → AheadOf P s c ts → ValueAhead s v rest
-  one_ahead limit {s = s} {c} x a =
-      let v = one_at (BelowLimit limit) x s c a.facts in
-      record { at = v; following = record { facts = v.following; bodies = walk_value lexeme nothing (BelowLimit limit) (Walked P) (quiet_walk P keep_quiet) x a.bodies } }
+      → e.Value lexeme nothing (BelowLimit limit) d v fs ts rest → AheadOf P s c ts → PassedIn P s (GoodValue v) rest
+  one_ahead limit {s = s} x a = one_at (BelowLimit limit) (Walked P) quiet_ahead x s a
 
   -- the names of a path after its first one
   path_rest_good : {names : List (List ℕ)} {s : Around} {ts rest : Tokens} → PathRest lexeme names ts rest → AheadOf P s false ts → PassedIn P s (GoodNames names) rest
@@ -101,4 +87,4 @@ past_token = past_ahead outside_after
 -- an expression that no other is open around
 pub value_good : (limit : ℕ) {v : Value} {fs : Shown} {s : Around} {c : Bool} {ts rest : Tokens} → Expression lexeme nothing (BelowLimit limit) false 0 v fs ts rest → Ahead s c ts
     → PassedIn IsOutside s (GoodExpression limit v) rest
-value_good limit x a = let v = value_ahead outside_after limit x a in record { good = good_expression limit x v.at; following = v.following }
+value_good limit x a = let v = value_ahead outside_after limit x a in record { good = good_expression limit x v.good; following = v.following }

@@ -1,5 +1,4 @@
 -- That attributes are lexed and derived back, and printed again the same.
-pub mod AttributesUtf8
 pub mod BackAttributes
 pub mod CanonAttributes
 pub mod CountedAttributes

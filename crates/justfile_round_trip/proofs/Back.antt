@@ -13,9 +13,9 @@ use Rattle.justfile_model.specs.Grammars.Features.{Noted, uncompared}
 use Rattle.justfile_model.specs.Grammars.Expressions as g
 use Rattle.justfile_model.specs.Grammars.Expressions.{Tokens, BelowLimit, ends_open, NotNext, IsWord, NotWord, IsMarked, NotMarked, Unmarked, NotCompared, NotJoined, Expression, Disjunct, Compared, Conjunct, Condition, Braced, Conditional, Value, Sequence, FormatParts}
 use Rattle.justfile_model.specs.Printed.Printing.{is_conditional}
-use Rattle.justfile_round_trip.proofs.LiteralTexts.LexedModes.{Sign, sign, placed}
+use Rattle.justfile_round_trip.proofs.LiteralTexts.LexedModes.{Sign, sign, placed, space}
 use Rattle.justfile_round_trip.proofs.Canon as canon
-use Rattle.justfile_round_trip.proofs.Canon.{Shown, Values, ShapeParts, space, word, brace_left, brace_right, paren_right, expr_signs, exprs_signs, others_signs, parts_signs}
+use Rattle.justfile_round_trip.proofs.Canon.{Shown, Values, ShapeParts, word, brace_left, brace_right, paren_right, expr_signs, exprs_signs, others_signs, parts_signs}
 use Rattle.justfile_round_trip.proofs.Good.{significant, closes, ends_value}
 use Rattle.justfile_round_trip.proofs.Ends.{End, OfName, OfValue, OfOpen, OfClosed, tail, EndsIn, ValueEndsIn, SameHead, same_head, value_head, expression_head}
 

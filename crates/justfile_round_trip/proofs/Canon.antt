@@ -1,4 +1,4 @@
--- The printer with a continuation: the printed text before another text, and the printer's tokens before other tokens.
+-- The printer's tokens, before other tokens, and that their text is the printed text.
 use Rattle.std.proofs.Common.{◌≡◌, ℕ, Bool, true, false, cond, List, [], ◌∷◌, ◌++◌, refl, ap, ◌∙◌, append_assoc, codes}
 use Rattle.std.specs.List.{flat_map}
 use Rattle.justfile_vocabulary.specs.declared.token_kind.TokenKind.TheVariants as kinds
@@ -8,8 +8,8 @@ use Rattle.justfile_model.specs.Trees.Tree as tree
 use Rattle.justfile_model.specs.Trees.Tree.{Expr, Or, And, Comparison, Concatenation, ListConcatenation, Join, Root, If, IfElse, Not, StringLiteral, FormatLiteral, FormatString, Backtick, Assert, AssertMessage, Variable, Call, Group, ListOf, Last, Continue, Text, Interpolation, BodyLine, Line, Content, OrderedItem}
 use Rattle.justfile_model.specs.Grammars.Features.{Noted}
 use Rattle.justfile_model.specs.Grammars.Expressions.{operator_kind}
-use Rattle.justfile_model.specs.Printed.Printing.{fixed_text, is_conditional, other_text, expr_text, exprs_text, parts_text, fragment_text, body_line_text, body_text}
-use Rattle.justfile_round_trip.proofs.LiteralTexts.LexedModes.{Sign, sign}
+use Rattle.justfile_model.specs.Printed.Printing.{fixed_text, if_true, is_conditional, other_text, expr_text, exprs_text, parts_text, fragment_text, body_text}
+use Rattle.justfile_round_trip.proofs.LiteralTexts.LexedModes.{Sign, sign, space, newline, text_of}
 
 -- What a shape is made of: expressions, fragments, lines of bodies, and items with their contents.
 abbrev pub Value : Type 0
@@ -30,12 +30,6 @@ ShapeItem = OrderedItem (List ℕ) (Unit {0}) (Unit {0})
 -- its features, which have no places
 abbrev pub Shown : Type 0
 Shown = List (Noted (Unit {0}))
-
-abbrev pub space : Sign
-space = sign kinds.Whitespace (32 ∷ [])
-
-abbrev pub newline : Sign
-newline = sign kinds.Eol (10 ∷ [])
 
 abbrev pub colon : Sign
 colon = sign kinds.Colon (58 ∷ [])
@@ -59,6 +53,11 @@ paren_right = sign kinds.ParenR (codes ")")
 abbrev pub comma : Sign
 comma = sign kinds.Comma (codes ",")
 
+-- a sign or none
+abbrev pub flag_signs : Bool → Sign → List Sign → List Sign
+flag_signs true s ts = s ∷ ts
+flag_signs false s ts = ts
+
 abbrev pub operator_codes : ConditionalOperator → List ℕ
 operator_codes Equality = codes "=="
 operator_codes Inequality = codes "!="
@@ -72,42 +71,6 @@ Values = tree.Exprs (List ℕ) (Unit {0})
 -- the rest of a format string after an expression
 abbrev pub ShapeParts : Type 0
 ShapeParts = tree.Parts (List ℕ) (Unit {0})
-
-abbrev mutual
-  pub expr_on : Value → List ℕ → List ℕ
-  expr_on (Or l r) more = expr_on l (codes " || " ++ expr_on r more)
-  expr_on (And l r) more = expr_on l (codes " && " ++ expr_on r more)
-  expr_on (Comparison l operator token r) more = expr_on l (32 ∷ (operator_codes operator ++ (32 ∷ expr_on r more)))
-  expr_on (Concatenation l operator r) more = expr_on l (codes " + " ++ expr_on r more)
-  expr_on (ListConcatenation l operator r) more = expr_on l (codes " ++ " ++ expr_on r more)
-  expr_on (Join l operator r) more = expr_on l (codes " / " ++ expr_on r more)
-  expr_on (Root operator r) more = codes "/ " ++ expr_on r more
-  expr_on (If c b) more = codes "if " ++ expr_on c (codes " { " ++ expr_on b (codes " }" ++ more))
-  expr_on (IfElse c b o) more = codes "if " ++ expr_on c (codes " { " ++ expr_on b (codes " } else " ++ cond (is_conditional o) (expr_on o more) (codes "{ " ++ expr_on o (codes " }" ++ more))))
-  expr_on (Not e) more = codes "!" ++ expr_on e more
-  expr_on (StringLiteral true lexeme) more = 120 ∷ (lexeme ++ more)
-  expr_on (StringLiteral false lexeme) more = lexeme ++ more
-  expr_on (FormatLiteral lexeme) more = 102 ∷ (lexeme ++ more)
-  expr_on (FormatString start e parts) more = 102 ∷ (start ++ (32 ∷ expr_on e (32 ∷ parts_on parts more)))
-  expr_on (Backtick lexeme) more = lexeme ++ more
-  expr_on (Assert name c) more = codes "assert(" ++ expr_on c (codes ")" ++ more)
-  expr_on (AssertMessage name c m) more = codes "assert(" ++ expr_on c (codes ", " ++ expr_on m (codes ")" ++ more))
-  expr_on (Variable name) more = name ++ more
-  expr_on (Call name arguments) more = name ++ (40 ∷ exprs_on arguments (codes ")" ++ more))
-  expr_on (Group e) more = codes "(" ++ expr_on e (codes ")" ++ more)
-  expr_on (ListOf opener elements) more = codes "[" ++ exprs_on elements (codes "]" ++ more)
-
-  pub exprs_on : Values → List ℕ → List ℕ
-  exprs_on tree.none more = more
-  exprs_on (tree.more e es) more = expr_on e (others_on es more)
-
-  pub others_on : Values → List ℕ → List ℕ
-  others_on tree.none more = more
-  others_on (tree.more e es) more = codes ", " ++ expr_on e (others_on es more)
-
-  pub parts_on : ShapeParts → List ℕ → List ℕ
-  parts_on (Last lexeme) more = lexeme ++ more
-  parts_on (Continue lexeme e parts) more = lexeme ++ (32 ∷ expr_on e (32 ∷ parts_on parts more))
 
 abbrev mutual
   pub expr_signs : Value → List Sign → List Sign
@@ -148,34 +111,6 @@ abbrev mutual
 
 -- ---- bodies
 
-abbrev pub fragment_on : Fragment → List ℕ → List ℕ
-fragment_on (Text t) more = t ++ more
-fragment_on (Interpolation e) more = 123 ∷ 123 ∷ 32 ∷ expr_on e (32 ∷ 125 ∷ 125 ∷ more)
-
-abbrev pub fragments_on : List Fragment → List ℕ → List ℕ
-fragments_on [] more = more
-fragments_on (f ∷ fs) more = fragment_on f (fragments_on fs more)
-
--- a line without its line end: a nonempty one has the indentation
-abbrev pub line_on : List ℕ → ShapeLine → List ℕ → List ℕ
-line_on ind (Line number []) more = more
-line_on ind (Line number (f ∷ fs)) more = ind ++ fragments_on (f ∷ fs) more
-
--- lines, each with the line end after it
-abbrev pub lines_on : List ℕ → List ShapeLine → List ℕ → List ℕ
-lines_on ind [] more = more
-lines_on ind (l ∷ ls) more = line_on ind l (10 ∷ lines_on ind ls more)
-
--- the lines after the header of a recipe, each with the line end before it
-abbrev pub body_on : List ℕ → List ShapeLine → List ℕ → List ℕ
-body_on ind [] more = more
-body_on ind (l ∷ ls) more = 10 ∷ line_on ind l (body_on ind ls more)
-
--- with the line end of the last line both are one text
-pub body_on_is : (ind : List ℕ) (ls : List ShapeLine) (more : List ℕ) → body_on ind ls (10 ∷ more) ≡ 10 ∷ lines_on ind ls more
-body_on_is ind [] more = refl
-body_on_is ind (l ∷ ls) more = ap (λ x. 10 ∷ line_on ind l x) (body_on_is ind ls more)
-
 abbrev pub fragment_signs : Fragment → List Sign → List Sign
 fragment_signs (Text t) ts = sign kinds.Text t ∷ ts
 fragment_signs (Interpolation e) ts = sign kinds.InterpolationStart (123 ∷ 123 ∷ []) ∷ space ∷ expr_signs e (space ∷ sign kinds.InterpolationEnd (125 ∷ 125 ∷ []) ∷ ts)
@@ -198,7 +133,7 @@ abbrev pub body_signs : List ℕ → List ShapeLine → List Sign → List Sign
 body_signs ind [] ts = ts
 body_signs ind (Line number fs ∷ ls) ts = sign kinds.Indent ind ∷ fragments_signs fs (newline ∷ lines_signs ind ls (sign kinds.Dedent [] ∷ ts))
 
--- ---- the text of the definitions is this text
+-- ---- their text is the text of the definitions
 
 -- a text, and one after it
 pub then : (a b more : List ℕ) {y x : List ℕ} → b ++ more ≡ y → a ++ y ≡ x → (a ++ b) ++ more ≡ x
@@ -212,66 +147,72 @@ joined a p b more {y} e f = then (a ++ p) b more e (then a p y refl f)
 around : (a p b q more : List ℕ) {y x : List ℕ} → b ++ (q ++ more) ≡ y → a ++ (p ++ y) ≡ x → (((a ++ p) ++ b) ++ q) ++ more ≡ x
 around a p b q more e f = then ((a ++ p) ++ b) q more refl (joined a p b (q ++ more) e f)
 
--- the other branch: a conditional as it is, or else in braces
-other_is : (b : Bool) (o more on inside : List ℕ) → o ++ more ≡ on → o ++ (codes " }" ++ more) ≡ inside → other_text b o ++ more ≡ cond b on (codes "{ " ++ inside)
+pub flag_is : (b : Bool) (s : Sign) (ts : List Sign) → if_true b (fixed_text s.lexeme) ++ text_of ts ≡ text_of (flag_signs b s ts)
 unfolding fixed_text
-other_is true o more on inside e f = e
-other_is false o more on inside e f = then (codes "{ " ++ o) (codes " }") more refl (ap (λ t. codes "{ " ++ t) f)
+flag_is true s ts = refl
+flag_is false s ts = refl
+
+-- the other branch: a conditional as it is, or else in braces
+other_is : (b : Bool) (o : List ℕ) (ts on inside : List Sign) → o ++ text_of ts ≡ text_of on → o ++ (codes " }" ++ text_of ts) ≡ text_of inside
+    → other_text b o ++ text_of ts ≡ text_of (cond b on (brace_left ∷ space ∷ inside))
+unfolding fixed_text
+other_is true o ts on inside e f = e
+other_is false o ts on inside e f = then (codes "{ " ++ o) (codes " }") (text_of ts) refl (ap (λ t. codes "{ " ++ t) f)
 
 mutual
   unfolding fixed_text
 
-  pub expr_is : (e : Value) (more : List ℕ) → expr_text e ++ more ≡ expr_on e more
-  expr_is (Or l r) more = joined (expr_text l) (codes " || ") (expr_text r) more (expr_is r more) (expr_is l _)
-  expr_is (And l r) more = joined (expr_text l) (codes " && ") (expr_text r) more (expr_is r more) (expr_is l _)
-  expr_is (Comparison l Equality token r) more = joined (expr_text l) (codes " == ") (expr_text r) more (expr_is r more) (expr_is l _)
-  expr_is (Comparison l by token r) more = joined (expr_text l) (32 ∷ (operator_codes by ++ (32 ∷ []))) (expr_text r) more (expr_is r more) (expr_is l _)
-  expr_is (Concatenation l operator r) more = joined (expr_text l) (codes " + ") (expr_text r) more (expr_is r more) (expr_is l _)
-  expr_is (ListConcatenation l operator r) more = joined (expr_text l) (codes " ++ ") (expr_text r) more (expr_is r more) (expr_is l _)
-  expr_is (Join l operator r) more = joined (expr_text l) (codes " / ") (expr_text r) more (expr_is r more) (expr_is l _)
-  expr_is (Root operator r) more = ap (λ t. codes "/ " ++ t) (expr_is r more)
-  expr_is (If c b) more = around (codes "if " ++ expr_text c) (codes " { ") (expr_text b) (codes " }") more (expr_is b _) (ap (λ t. codes "if " ++ t) (expr_is c _))
-  expr_is (IfElse c b o) more =
-      then ((((codes "if " ++ expr_text c) ++ codes " { ") ++ expr_text b) ++ codes " } else ") (other_text (is_conditional o) (expr_text o)) more (other_is (is_conditional o) (expr_text o) more _ _ (expr_is o more) (expr_is o (codes " }" ++ more)))
+  pub expr_is : (e : Value) (ts : List Sign) → expr_text e ++ text_of ts ≡ text_of (expr_signs e ts)
+  expr_is (Or l r) ts = joined (expr_text l) (codes " || ") (expr_text r) _ (expr_is r ts) (expr_is l _)
+  expr_is (And l r) ts = joined (expr_text l) (codes " && ") (expr_text r) _ (expr_is r ts) (expr_is l _)
+  expr_is (Comparison l Equality token r) ts = joined (expr_text l) (codes " == ") (expr_text r) _ (expr_is r ts) (expr_is l _)
+  expr_is (Comparison l by token r) ts = joined (expr_text l) (32 ∷ (operator_codes by ++ (32 ∷ []))) (expr_text r) _ (expr_is r ts) (expr_is l _)
+  expr_is (Concatenation l operator r) ts = joined (expr_text l) (codes " + ") (expr_text r) _ (expr_is r ts) (expr_is l _)
+  expr_is (ListConcatenation l operator r) ts = joined (expr_text l) (codes " ++ ") (expr_text r) _ (expr_is r ts) (expr_is l _)
+  expr_is (Join l operator r) ts = joined (expr_text l) (codes " / ") (expr_text r) _ (expr_is r ts) (expr_is l _)
+  expr_is (Root operator r) ts = ap (λ t. codes "/ " ++ t) (expr_is r ts)
+  expr_is (If c b) ts = around (codes "if " ++ expr_text c) (codes " { ") (expr_text b) (codes " }") (text_of ts) (expr_is b _) (ap (λ t. codes "if " ++ t) (expr_is c _))
+  expr_is (IfElse c b o) ts =
+      then ((((codes "if " ++ expr_text c) ++ codes " { ") ++ expr_text b) ++ codes " } else ") (other_text (is_conditional o) (expr_text o)) (text_of ts) (other_is (is_conditional o) (expr_text o) ts _ _ (expr_is o ts) (expr_is o (space ∷ brace_right ∷ ts)))
       (around (codes "if " ++ expr_text c) (codes " { ") (expr_text b) (codes " } else ") _ (expr_is b _) (ap (λ t. codes "if " ++ t) (expr_is c _)))
-  expr_is (Not e) more = ap (λ t. 33 ∷ t) (expr_is e more)
-  expr_is (StringLiteral true l) more = refl
-  expr_is (StringLiteral false l) more = refl
-  expr_is (FormatLiteral l) more = refl
-  expr_is (FormatString s e ps) more =
-      then ((((102 ∷ s) ++ codes " ") ++ expr_text e) ++ codes " ") (parts_text ps) more (parts_is ps more) (around (102 ∷ s) (codes " ") (expr_text e) (codes " ") (parts_on ps more) (expr_is e _) refl)
-  expr_is (Backtick l) more = refl
-  expr_is (Assert name c) more = then (codes "assert(" ++ expr_text c) (codes ")") more refl (ap (λ t. codes "assert(" ++ t) (expr_is c _))
-  expr_is (AssertMessage name c m) more = around (codes "assert(" ++ expr_text c) (codes ", ") (expr_text m) (codes ")") more (expr_is m _) (ap (λ t. codes "assert(" ++ t) (expr_is c _))
-  expr_is (Variable n) more = refl
-  expr_is (Call n es) more = around n (codes "(") (exprs_text es) (codes ")") more (exprs_is es _) refl
-  expr_is (Group e) more = then (codes "(" ++ expr_text e) (codes ")") more refl (ap (λ t. codes "(" ++ t) (expr_is e _))
-  expr_is (ListOf opener es) more = then (codes "[" ++ exprs_text es) (codes "]") more refl (ap (λ t. codes "[" ++ t) (exprs_is es _))
+  expr_is (Not e) ts = ap (λ t. 33 ∷ t) (expr_is e ts)
+  expr_is (StringLiteral true l) ts = refl
+  expr_is (StringLiteral false l) ts = refl
+  expr_is (FormatLiteral l) ts = refl
+  expr_is (FormatString s e ps) ts =
+      then ((((102 ∷ s) ++ codes " ") ++ expr_text e) ++ codes " ") (parts_text ps) (text_of ts) (parts_is ps ts) (around (102 ∷ s) (codes " ") (expr_text e) (codes " ") _ (expr_is e _) refl)
+  expr_is (Backtick l) ts = refl
+  expr_is (Assert name c) ts = then (codes "assert(" ++ expr_text c) (codes ")") (text_of ts) refl (ap (λ t. codes "assert(" ++ t) (expr_is c _))
+  expr_is (AssertMessage name c m) ts = around (codes "assert(" ++ expr_text c) (codes ", ") (expr_text m) (codes ")") (text_of ts) (expr_is m _) (ap (λ t. codes "assert(" ++ t) (expr_is c _))
+  expr_is (Variable n) ts = refl
+  expr_is (Call n es) ts = around n (codes "(") (exprs_text es) (codes ")") (text_of ts) (exprs_is es _) refl
+  expr_is (Group e) ts = then (codes "(" ++ expr_text e) (codes ")") (text_of ts) refl (ap (λ t. codes "(" ++ t) (expr_is e _))
+  expr_is (ListOf opener es) ts = then (codes "[" ++ exprs_text es) (codes "]") (text_of ts) refl (ap (λ t. codes "[" ++ t) (exprs_is es _))
 
-  pub exprs_is : (es : Values) (more : List ℕ) → exprs_text es ++ more ≡ exprs_on es more
-  exprs_is tree.none more = refl
-  exprs_is (tree.more e tree.none) more = expr_is e more
-  exprs_is (tree.more e (tree.more e2 es)) more = joined (expr_text e) (codes ", ") (exprs_text (tree.more e2 es)) more (exprs_is (tree.more e2 es) more) (expr_is e _)
+  pub exprs_is : (es : Values) (ts : List Sign) → exprs_text es ++ text_of ts ≡ text_of (exprs_signs es ts)
+  exprs_is tree.none ts = refl
+  exprs_is (tree.more e tree.none) ts = expr_is e ts
+  exprs_is (tree.more e (tree.more e2 es)) ts = joined (expr_text e) (codes ", ") (exprs_text (tree.more e2 es)) _ (exprs_is (tree.more e2 es) ts) (expr_is e _)
 
-  parts_is : (ps : ShapeParts) (more : List ℕ) → parts_text ps ++ more ≡ parts_on ps more
-  parts_is (Last l) more = refl
-  parts_is (Continue l e ps) more = then (((l ++ codes " ") ++ expr_text e) ++ codes " ") (parts_text ps) more (parts_is ps more) (around l (codes " ") (expr_text e) (codes " ") (parts_on ps more) (expr_is e _) refl)
+  parts_is : (ps : ShapeParts) (ts : List Sign) → parts_text ps ++ text_of ts ≡ text_of (parts_signs ps ts)
+  parts_is (Last l) ts = refl
+  parts_is (Continue l e ps) ts = then (((l ++ codes " ") ++ expr_text e) ++ codes " ") (parts_text ps) (text_of ts) (parts_is ps ts) (around l (codes " ") (expr_text e) (codes " ") _ (expr_is e _) refl)
 
-fragment_is : (f : Fragment) (more : List ℕ) → fragment_text f ++ more ≡ fragment_on f more
+fragment_is : (f : Fragment) (ts : List Sign) → fragment_text f ++ text_of ts ≡ text_of (fragment_signs f ts)
 unfolding fixed_text
-fragment_is (Text t) more = refl
-fragment_is (Interpolation e) more = ap (λ l. 123 ∷ 123 ∷ 32 ∷ l) (append_assoc (expr_text e) (32 ∷ 125 ∷ 125 ∷ []) more ∙ expr_is e (32 ∷ 125 ∷ 125 ∷ more))
+fragment_is (Text t) ts = refl
+fragment_is (Interpolation e) ts = ap (λ l. codes "{{ " ++ l) (then (expr_text e) (codes " }}") (text_of ts) refl (expr_is e _))
 
-fragments_is : (fs : List Fragment) (more : List ℕ) → flat_map fragment_text fs ++ more ≡ fragments_on fs more
-fragments_is [] more = refl
-fragments_is (f ∷ fs) more = append_assoc (fragment_text f) (flat_map fragment_text fs) more ∙ fragment_is f (flat_map fragment_text fs ++ more) ∙ ap (fragment_on f) (fragments_is fs more)
+fragments_is : (fs : List Fragment) (ts : List Sign) → flat_map fragment_text fs ++ text_of ts ≡ text_of (fragments_signs fs ts)
+fragments_is [] ts = refl
+fragments_is (f ∷ fs) ts = then (fragment_text f) (flat_map fragment_text fs) (text_of ts) (fragments_is fs ts) (fragment_is f _)
 
-line_is : (ind : List ℕ) (l : ShapeLine) (more : List ℕ) → body_line_text ind l ++ more ≡ line_on ind l more
-line_is ind (Line number []) more = refl
-line_is ind (Line number (f ∷ fs)) more = append_assoc ind (flat_map fragment_text (f ∷ fs)) more ∙ ap (λ l. ind ++ l) (fragments_is (f ∷ fs) more)
-
-pub body_is : (ind : List ℕ) (ls : List ShapeLine) (more : List ℕ) → body_text ind ls ++ more ≡ body_on ind ls more
+-- the line end after the header of a recipe, and its lines: before text that begins with the line end of the last one
+pub lines_are : (ind : List ℕ) (ls : List ShapeLine) (ts : List Sign) → body_text ind ls ++ (10 ∷ text_of ts) ≡ 10 ∷ text_of (lines_signs ind ls ts)
 unfolding fixed_text
-body_is ind [] more = refl
-body_is ind (l ∷ ls) more =
-    ap (λ x. 10 ∷ x) (append_assoc (body_line_text ind l) (body_text ind ls) more ∙ line_is ind l (body_text ind ls ++ more) ∙ ap (line_on ind l) (body_is ind ls more))
+lines_are ind [] ts = refl
+lines_are ind (Line number [] ∷ ls) ts = ap (λ t. 10 ∷ t) (lines_are ind ls ts)
+lines_are ind (Line number (f ∷ fs) ∷ ls) ts =
+    ap (λ t. 10 ∷ t)
+    (then (ind ++ flat_map fragment_text (f ∷ fs)) (body_text ind ls) _ (lines_are ind ls ts)
+    (then ind (flat_map fragment_text (f ∷ fs)) _ (fragments_is (f ∷ fs) (newline ∷ lines_signs ind ls ts)) refl))

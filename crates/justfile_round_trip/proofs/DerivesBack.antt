@@ -1,8 +1,5 @@
 -- The printer's tokens for a good shape derive it, and its text is UTF-8.
 use Rattle.std.proofs.Common.{ℕ, Bool, true, List, [], ◌∷◌, ◌++◌, Option, Some, None, map, refl, sym, subst}
-use Rattle.std.specs.Str.{IsUtf8}
-use Rattle.std.proofs.lemmas.Str.{IsUtf8-nil, IsUtf8-append}
-use Rattle.std.proofs.Math.Utf8.{encode}
 use Rattle.justfile_vocabulary.specs.declared.token_kind.TokenKind.TheVariants as kinds
 use Rattle.justfile_model.specs.Lexing.SignificantTokens.{SignificantToken}
 use Rattle.justfile_model.specs.Trees.Tree as tree
@@ -15,23 +12,20 @@ use Rattle.justfile_model.specs.Grammars.Files.{to_lexemes}
 use Rattle.justfile_model.specs.Grammars.Grammar.{Items, LineEnd, Block, NotEmpty}
 use Rattle.justfile_model.specs.Grammars.ItemParts.{EndsLine, at_comment, at_line_end}
 use Rattle.justfile_model.specs.Printed.PrintedAttributes.{rewritten_entries, rewritten_item}
-use Rattle.justfile_round_trip.proofs.LiteralTexts.LexedModes.{Sign, sign}
-use Rattle.justfile_round_trip.proofs.Attributes.AttributesUtf8.{comment_utf8, entries_utf8}
+use Rattle.justfile_round_trip.proofs.LiteralTexts.LexedModes.{Sign, sign, space, newline}
 use Rattle.justfile_round_trip.proofs.Attributes.BackAttributes.{glued_after, entries_back}
-use Rattle.justfile_round_trip.proofs.Items.BackContents.{content_back, content_no_bracket, content_utf8, header_no_bracket}
-use Rattle.justfile_round_trip.proofs.Canon.{Shown, ShapeLine, ShapeContent, ShapeItem, space, newline, body_signs}
+use Rattle.justfile_round_trip.proofs.Items.BackContents.{content_back, content_no_bracket, header_no_bracket}
+use Rattle.justfile_round_trip.proofs.Canon.{Shown, ShapeLine, ShapeContent, body_signs}
 use Rattle.justfile_round_trip.proofs.Attributes.CanonAttributes.{ShapeEntry, comment_signs, entries_signs}
 use Rattle.justfile_round_trip.proofs.Headers.CanonHeaders.{ShapeHeader, header_rest_signs, header_signs}
-use Rattle.justfile_round_trip.proofs.Items.CanonItems.{content_signs, item_signs, end_on, end_signs, text_on, signs_from, signs}
+use Rattle.justfile_round_trip.proofs.Items.CanonItems.{content_signs, item_signs, end_signs, signs_from, signs}
 use Rattle.justfile_round_trip.proofs.Good.{significant, GoodComment, GoodOptionalComment, EndedBody}
 use Rattle.justfile_round_trip.proofs.Attributes.GoodAttributes.{GoodEntries}
 use Rattle.justfile_round_trip.proofs.Items.GoodContents.{GoodContent, content_no_body}
 use Rattle.justfile_round_trip.proofs.Headers.GoodHeaders.{GoodHeader}
 use Rattle.justfile_round_trip.proofs.Items.GoodItems as good
 use Rattle.justfile_round_trip.proofs.Items.GoodItems.{AtStart, ItemRest, AtEnd}
-use Rattle.justfile_round_trip.proofs.RecipeBodies.BodyLines.{IsLevel}
 use Rattle.justfile_round_trip.proofs.RecipeBodies.BodyDerives.{body_back}
-use Rattle.justfile_round_trip.proofs.RecipeBodies.BodyUtf8.{newline_utf8, body_utf8}
 
 -- ---- derivations
 
@@ -61,7 +55,7 @@ module _ (limit : ℕ) where
       let read = body_back limit ind n fs ls on b.good in (
         h.features ++ read.0,
         subst (λ x. Block to_lexemes (BelowLimit limit) (tree.Recipe (bare_recipe header None x)) (h.features ++ read.0) (significant glued (header_signs header (newline ∷ body_signs ind body on))) (significant true on)) b.ended
-            (g.recipe {lines = body} (h.derives.derives glued (newline ∷ body_signs ind body on) refl) (g.at_once refl refl) read.1 (subst NotEmpty (sym b.ended) tt)),
+            (g.recipe {lines = body} (h.derives glued (newline ∷ body_signs ind body on) refl) (g.at_once refl refl) read.1 (subst NotEmpty (sym b.ended) tt)),
       )
   block_back ind header (Some t) (tree.Line n fs) ls glued on h c b =
       let body : List ShapeLine = tree.Line n fs ∷ ls in
@@ -70,7 +64,7 @@ module _ (limit : ℕ) where
         h.features ++ read.0,
         subst (λ x. Block to_lexemes (BelowLimit limit) (tree.Recipe (bare_recipe header (Some t) x)) (h.features ++ read.0) (significant glued (header_signs header after)) (significant true on)) b.ended
             (subst (λ x. Block to_lexemes (BelowLimit limit) (tree.Recipe (bare_recipe header (Some x) (trimmed body))) (h.features ++ read.0) (significant glued (header_signs header after)) (significant true on)) c.trimmed
-            (g.recipe {lines = body} (h.derives.derives glued after refl) (g.commented refl refl refl) read.1 (subst NotEmpty (sym b.ended) tt))),
+            (g.recipe {lines = body} (h.derives glued after refl) (g.commented refl refl refl) read.1 (subst NotEmpty (sym b.ended) tt))),
       )
 
   -- lines of attributes before a header
@@ -125,33 +119,3 @@ module _ (limit : ℕ) (ind : List ℕ) where
 
     derive_end : (t : List ℕ) {items : Shape} → AtEnd limit items → Ended limit items (significant true (end_signs (tree.Comment t) items (signs ind items)))
     derive_end t (good.line_end more) = let r = derive_start more true in (r.0, g.line_end refl r.1)
-
--- ---- UTF-8
-
-space_utf8 : IsUtf8 (32 ∷ [])
-unfolding encode
-space_utf8 = (32 ∷ [], (refl, refl))
-
-end_utf8 : (i : ShapeItem) (items : Shape) (more : List ℕ) → IsUtf8 more → IsUtf8 (end_on i items more)
-end_utf8 tree.Newline items more u = IsUtf8-append (10 ∷ []) more newline_utf8 u
-end_utf8 i [] more u = u
-end_utf8 i (tree.Newline ∷ items) more u = u
-end_utf8 i (j ∷ items) more u = IsUtf8-append (32 ∷ []) more space_utf8 u
-
-module _ (limit : ℕ) (ind : List ℕ) (level : IsLevel ind) where
-  mutual
-    pub start_utf8 : {items : Shape} → AtStart limit items → IsUtf8 (text_on ind items)
-    start_utf8 good.end = IsUtf8-nil
-    start_utf8 (good.newline {items = items} more) = end_utf8 tree.Newline items _ (start_utf8 more)
-    start_utf8 (good.comment {t = t} {items = items} h more) = IsUtf8-append t _ h.utf8 (end_utf8 (tree.Comment t) items _ (line_end_utf8 more))
-    start_utf8 (good.on_line {entries = entries} {content = content} {items = items} attributes h more) =
-        entries_utf8 limit entries _ attributes (content_utf8 limit h ind _ (end_utf8 (Construct entries content) items _ (after_utf8 more)))
-    start_utf8 (good.recipe {entries = entries} {h = header} {comment = comment} {l = l} {ls = ls} attributes h commented body (good.body_end {items = items} follows last more)) =
-        entries_utf8 limit entries _ attributes (h.utf8 _ (comment_utf8 limit comment _ commented (body_utf8 limit ind (l ∷ ls) _ level body.good (end_utf8 tree.Newline items _ (start_utf8 more)))))
-
-    after_utf8 : {items : Shape} → ItemRest limit items → IsUtf8 (text_on ind items)
-    after_utf8 (good.trailing {t = t} {items = items} h more) = IsUtf8-append t _ h.utf8 (end_utf8 (tree.Comment t) items _ (line_end_utf8 more))
-    after_utf8 (good.bare more) = line_end_utf8 more
-
-    line_end_utf8 : {items : Shape} → AtEnd limit items → IsUtf8 (text_on ind items)
-    line_end_utf8 (good.line_end {items = items} more) = end_utf8 tree.Newline items _ (start_utf8 more)

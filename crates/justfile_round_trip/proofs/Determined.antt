@@ -25,16 +25,13 @@ abbrev mutual
   value_features condition (tree.If c b) = (value_features true c ++ uncompared c tt) ++ value_features false b ++ noted features.IfWithoutElse tt
   value_features condition (tree.IfElse c b o) = (value_features true c ++ uncompared c tt) ++ value_features false b ++ value_features false o
   value_features condition (tree.Not v) = noted features.NegationOperator tt ++ value_features false v
-  value_features condition (tree.StringLiteral expanded l) = []
-  value_features condition (tree.FormatLiteral l) = []
   value_features condition (tree.FormatString start v ps) = value_features false v ++ parts_features ps
-  value_features condition (tree.Backtick l) = []
   value_features condition (tree.Assert name c) = value_features true c ++ uncompared c tt
   value_features condition (tree.AssertMessage name c m) = (value_features true c ++ uncompared c tt) ++ value_features false m
-  value_features condition (tree.Variable n) = []
   value_features condition (tree.Call n es) = values_features es ++ called n tt
   value_features condition (tree.Group v) = value_features false v
   value_features condition (tree.ListOf opener es) = noted features.ListLiteral tt ++ values_features es
+  value_features condition _ = []
 
   pub values_features : Values → Shown
   values_features tree.none = []

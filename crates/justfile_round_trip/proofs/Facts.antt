@@ -8,6 +8,7 @@ use Rattle.std.proofs.lemmas.Bool.Decides.{nat_tests}
 use Rattle.std.proofs.lemmas.List.{append-nil}
 use Rattle.justfile_vocabulary.specs.declared.byte_class.ByteClass.{ByteClass}
 use Rattle.justfile_vocabulary.specs.declared.byte_class.ByteClass.TheVariants as classes
+use Rattle.std.proofs.Math.Bool.{or-false}
 use Rattle.justfile_token.specs.declared.delimiter.Delimiter.{Delimiter}
 use Rattle.justfile_token.specs.declared.delimiter.Delimiter.TheVariants.{Brace, Bracket, Paren}
 use Rattle.justfile_token.specs.declared.string_kind.StringDelimiter.{StringDelimiter}
@@ -80,23 +81,12 @@ record Finds (outside : Bool) (m : Mode) (rest : List ℕ) (found : NextToken) :
 
 each_from : (p : ByteClass → Bool) (xs following : List ℕ) → prefix_len (λ b. p (class_of b)) (xs ++ following) ≡ length xs → Each p xs
 each_from p [] following e = tt
-each_from p (x ∷ xs) following e = go (p (class_of x)) refl e (each_from p xs following)
-  where
-    n : ℕ
-    n = prefix_len (λ b. p (class_of b)) (xs ++ following)
-
-    go : (t : Bool) → p (class_of x) ≡ t → cond t (1 + n) 0 ≡ suc (length xs) → (n ≡ length xs → Each p xs) → (p (class_of x) ≡ true) × Each p xs
-    go true h e ih = (h, ih (omega arith))
-    go false h e ih = absurd (omega arith)
+each_from p (x ∷ xs) following e = (grind arith, each_from p xs following (grind arith))
 
 name_fact : (l following : List ℕ) → class_of (get_or (l ++ following) 0 0) ≡ classes.IdentifierStart → word_len (l ++ following) ≡ length l → IsName l
 unfolding class_of
 name_fact [] [] h e = cc
-name_fact [] (y ∷ ys) h e = absurd (none (in_word (class_of y)) (ap in_word h) e)
-  where
-    none : (t : Bool) → t ≡ true → cond t (1 + word_len ys) 0 ≡ 0 → ⊥
-    none true h e = omega arith
-    none false h e = cc
+name_fact [] (y ∷ ys) h e = absurd (let none : 1 + word_len ys ≡ 0 = sym (ap (λ t. cond t (1 + word_len ys) 0) (ap in_word h)) ∙ e in omega (arith, none))
 name_fact (x ∷ xs) following h e = (h, (each_from in_word (x ∷ xs) following e).1)
 
 -- ---- comments
@@ -124,8 +114,7 @@ comment_fact (x ∷ xs) following h e = record { first = grind (arith, nat_tests
 -- ---- literals
 
 or_left : (a b : Bool) → (a || b) ≡ true → b ≡ false → a ≡ true
-or_left true b h e = refl
-or_left false b h e = cc
+or_left a b h e = sym (or-false a) ∙ sym (ap (λ c. a || c) e) ∙ h
 
 -- a literal between its delimiters, which was read in format mode or not
 record IsDelimitedBy (k : StringKind) (format : Bool) (l : List ℕ) : Type 0 where
@@ -265,8 +254,7 @@ module _ (outside : Bool) (m : Mode) (rest : List ℕ) where
     where
       whole : (d : StringDelimiter) (i : Bool) (l following : List ℕ) → IsDelimitedBy (record { delimiter = d; indented = i }) (m.after_f && not (is_backtick d)) l → Fact m (token_kind_of d) l following
       whole delimiters.Backtick i l following f = f.delimited
-      whole delimiters.QuoteDouble i l following f = (f.delimited, λ g. record { string = f.delimited; ends = f.whole (ap (λ b. b && true) g) })
-      whole delimiters.QuoteSingle i l following f = (f.delimited, λ g. record { string = f.delimited; ends = f.whole (ap (λ b. b && true) g) })
+      whole _ i l following f = (f.delimited, λ g. record { string = f.delimited; ends = f.whole (ap (λ b. b && true) g) })
 
   close_finds : (o : Option OpenDelimiter) (d : Delimiter) (k : TokenKind) → ((l following : List ℕ) → Fact m k l following) → plain k ≡ true
       → Finds outside m rest (closing_delimiter o d k)

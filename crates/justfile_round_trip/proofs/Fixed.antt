@@ -1,5 +1,5 @@
 -- Tokens of fixed text inside a line lex to the printer's tokens.
-use Rattle.std.proofs.Common.{◌≡◌, ◌≢◌, ℕ, Bool, false, cond, eqb, List, [], ◌∷◌, ◌++◌, length, get_or, Option, Ok, refl, sym, ap, ◌∙◌, subst}
+use Rattle.std.proofs.Common.{◌≡◌, ◌≢◌, ℕ, Bool, true, false, cond, eqb, List, [], ◌∷◌, ◌++◌, length, get_or, Option, Ok, refl, sym, ap, ◌∙◌, subst}
 use Rattle.std.proofs.Math.Bool.{and-false}
 use Rattle.justfile_token.specs.declared.delimiter.Delimiter.{Delimiter}
 use Rattle.justfile_vocabulary.specs.declared.byte_class.ByteClass.TheVariants as classes
@@ -11,8 +11,8 @@ use Rattle.justfile_model.specs.declared.open_delimiter.OpenDelimiter.{OpenDelim
 use Rattle.justfile_model.specs.Lexing.Tok.{Tok}
 use Rattle.justfile_model.specs.Lexing.Modes.{is_empty, opener, mode_after}
 use Rattle.justfile_model.specs.Lexing.Next.{fixed_token, token_by_class}
-use Rattle.justfile_round_trip.proofs.LiteralTexts.LexedModes.{Sign, sign, LexesTo, step}
-use Rattle.justfile_round_trip.proofs.LiteralTexts.Inline.{amid, amid_next, and_false}
+use Rattle.justfile_round_trip.proofs.LiteralTexts.LexedModes.{Sign, sign, Lexes, text_of, step}
+use Rattle.justfile_round_trip.proofs.LiteralTexts.Inline.{all_ascii, amid, amid_next, and_false, fixed_utf8}
 
 -- These bytes are a token of this kind, whatever follows them.
 pub data IsFixed : TokenKind → List ℕ → Type 0 where
@@ -44,49 +44,46 @@ pub data Closes : Delimiter → TokenKind → ℕ → Type 0 where
 
 module _ {os : List OpenDelimiter} {ls : List (List ℕ)} {c : Bool} {i : Option Tok} {f : Bool} where
   -- a token that keeps the mode, before a byte that doesn't lengthen it
-  fixed_step : (k : TokenKind) (b : ℕ) (bs : List ℕ) {more : List ℕ} {ts : List Sign} → class_of b ≡ classes.Fixed → eqb b 125 ≡ false → fixed_token b (b ∷ bs ++ more) ≡ Ok (k, length (b ∷ bs)) → k ≢ Eof
-      → ((t : Tok) → mode_after k t (amid os ls c i f) ≡ amid os ls c i false) → LexesTo (amid os ls c i false) more ts → LexesTo (amid os ls c i f) (b ∷ bs ++ more) (sign k (b ∷ bs) ∷ ts)
+  fixed_step : (k : TokenKind) (b : ℕ) (bs : List ℕ) {ts : List Sign} → class_of b ≡ classes.Fixed → eqb b 125 ≡ false → all_ascii (b ∷ bs) ≡ true
+      → fixed_token b (b ∷ bs ++ text_of ts) ≡ Ok (k, length (b ∷ bs)) → k ≢ Eof
+      → ((t : Tok) → mode_after k t (amid os ls c i f) ≡ amid os ls c i false) → Lexes (amid os ls c i false) ts → Lexes (amid os ls c i f) (sign k (b ∷ bs) ∷ ts)
   unfolding token_by_class
-  fixed_step k b bs {more} {ts} class no_brace found goes_on same r =
-      step (amid os ls c i f) k (b ∷ bs) more ts
-      (amid_next os ls c i f b (bs ++ more) (and_false (is_empty os) _ _ no_brace)
-      ∙ ap (λ q. token_by_class (amid os ls c i f) q (b ∷ bs ++ more)) class
+  fixed_step k b bs {ts} class no_brace ascii found goes_on same r =
+      step (amid os ls c i f) k (b ∷ bs) ts (fixed_utf8 (b ∷ bs) ascii)
+      (amid_next os ls c i f b (bs ++ text_of ts) (and_false (is_empty os) _ _ no_brace)
+      ∙ ap (λ q. token_by_class (amid os ls c i f) q (b ∷ bs ++ text_of ts)) class
       ∙ found)
       goes_on
-      (λ o n col. subst (λ m. LexesTo m more ts) (sym (same _)) r)
+      (λ o n col. subst (λ m. Lexes m ts) (sym (same _)) r)
 
-  pub token_step : {k : TokenKind} {bs more : List ℕ} {ts : List Sign} → IsFixed k bs → LexesTo (amid os ls c i false) more ts → LexesTo (amid os ls c i f) (bs ++ more) (sign k bs ∷ ts)
+  pub token_step : {k : TokenKind} {bs : List ℕ} {ts : List Sign} → IsFixed k bs → Lexes (amid os ls c i false) ts → Lexes (amid os ls c i f) (sign k bs ∷ ts)
   unfolding class_of fixed_token
-  token_step dollar r = fixed_step _ _ _ refl refl refl (λ e. cc) (λ t. refl) r
-  token_step _ r = fixed_step _ _ _ refl refl refl (λ e. cc) (λ t. refl) r
-
-  pub plus_step : {more : List ℕ} {ts : List Sign} → LexesTo (amid os ls c i false) (32 ∷ more) ts → LexesTo (amid os ls c i f) (43 ∷ 32 ∷ more) (sign Plus (43 ∷ []) ∷ ts)
-  unfolding class_of fixed_token
-  plus_step k = fixed_step Plus 43 [] refl refl refl (λ e. cc) (λ t. refl) k
+  token_step dollar r = fixed_step _ _ _ refl refl refl refl (λ e. cc) (λ t. refl) r
+  token_step _ r = fixed_step _ _ _ refl refl refl refl (λ e. cc) (λ t. refl) r
 
   -- a plus, before a byte that doesn't make it another operator
-  pub plus_before : (more : List ℕ) {ts : List Sign} → eqb (get_or more 0 0) 43 ≡ false → LexesTo (amid os ls c i false) more ts → LexesTo (amid os ls c i f) (43 ∷ more) (sign Plus (43 ∷ []) ∷ ts)
+  pub plus_step : {ts : List Sign} → eqb (get_or (text_of ts) 0 0) 43 ≡ false → Lexes (amid os ls c i false) ts → Lexes (amid os ls c i f) (sign Plus (43 ∷ []) ∷ ts)
   unfolding class_of fixed_token
-  plus_before more plus k = fixed_step Plus 43 [] refl refl (λ j. cond (plus j) (Ok (PlusPlus, 2)) (Ok (Plus, 1))) (λ e. cc) (λ t. refl) k
+  plus_step plus k = fixed_step Plus 43 [] refl refl refl (λ j. cond (plus j) (Ok (PlusPlus, 2)) (Ok (Plus, 1))) (λ e. cc) (λ t. refl) k
 
-  pub equals_before : (more : List ℕ) {ts : List Sign} → eqb (get_or more 0 0) 61 ≡ false → eqb (get_or more 0 0) 126 ≡ false → LexesTo (amid os ls c i false) more ts → LexesTo (amid os ls c i f) (61 ∷ more) (sign Equals (61 ∷ []) ∷ ts)
+  pub equals_step : {ts : List Sign} → eqb (get_or (text_of ts) 0 0) 61 ≡ false → eqb (get_or (text_of ts) 0 0) 126 ≡ false → Lexes (amid os ls c i false) ts → Lexes (amid os ls c i f) (sign Equals (61 ∷ []) ∷ ts)
   unfolding class_of fixed_token
-  equals_before more equals tilde k = fixed_step Equals 61 [] refl refl (λ j. cond (equals j) (Ok (EqualsEquals, 2)) (cond (tilde j) (Ok (EqualsTilde, 2)) (Ok (Equals, 1)))) (λ e. cc) (λ t. refl) k
+  equals_step equals tilde k = fixed_step Equals 61 [] refl refl refl (λ j. cond (equals j) (Ok (EqualsEquals, 2)) (cond (tilde j) (Ok (EqualsTilde, 2)) (Ok (Equals, 1)))) (λ e. cc) (λ t. refl) k
 
-  pub bang_step : (more : List ℕ) {ts : List Sign} → eqb (get_or more 0 0) 61 ≡ false → eqb (get_or more 0 0) 126 ≡ false → LexesTo (amid os ls c i false) more ts → LexesTo (amid os ls c i f) (33 ∷ more) (sign Bang (33 ∷ []) ∷ ts)
+  pub bang_step : {ts : List Sign} → eqb (get_or (text_of ts) 0 0) 61 ≡ false → eqb (get_or (text_of ts) 0 0) 126 ≡ false → Lexes (amid os ls c i false) ts → Lexes (amid os ls c i f) (sign Bang (33 ∷ []) ∷ ts)
   unfolding class_of fixed_token
-  bang_step more equals tilde k = fixed_step Bang 33 [] refl refl (λ j. cond (equals j) (Ok (BangEquals, 2)) (cond (tilde j) (Ok (BangTilde, 2)) (Ok (Bang, 1)))) (λ e. cc) (λ t. refl) k
+  bang_step equals tilde k = fixed_step Bang 33 [] refl refl refl (λ j. cond (equals j) (Ok (BangEquals, 2)) (cond (tilde j) (Ok (BangTilde, 2)) (Ok (Bang, 1)))) (λ e. cc) (λ t. refl) k
 
-  pub open_step : {d : Delimiter} {k : TokenKind} {b : ℕ} {more : List ℕ} {ts : List Sign} → Opens d k b
-      → ((line : ℕ) → LexesTo (amid (opener d line ∷ os) ls c i false) more ts) → LexesTo (amid os ls c i f) (b ∷ more) (sign k (b ∷ []) ∷ ts)
+  pub open_step : {d : Delimiter} {k : TokenKind} {b : ℕ} {ts : List Sign} → Opens d k b
+      → ((line : ℕ) → Lexes (amid (opener d line ∷ os) ls c i false) ts) → Lexes (amid os ls c i f) (sign k (b ∷ []) ∷ ts)
   unfolding token_by_class class_of
-  open_step {b = b} {more} {ts} paren r = step (amid os ls c i f) _ (b ∷ []) more ts (amid_next os ls c i f b more (and-false (is_empty os))) (λ e. cc) (λ o n col. r n)
-  open_step {b = b} {more} {ts} _ r = step (amid os ls c i f) _ (b ∷ []) more ts (amid_next os ls c i f b more (and-false (is_empty os))) (λ e. cc) (λ o n col. r n)
+  open_step {b = b} {ts} paren r = step (amid os ls c i f) _ (b ∷ []) ts (fixed_utf8 (b ∷ []) refl) (amid_next os ls c i f b (text_of ts) (and-false (is_empty os))) (λ e. cc) (λ o n col. r n)
+  open_step {b = b} {ts} _ r = step (amid os ls c i f) _ (b ∷ []) ts (fixed_utf8 (b ∷ []) refl) (amid_next os ls c i f b (text_of ts) (and-false (is_empty os))) (λ e. cc) (λ o n col. r n)
 
-  pub close_step : {d : Delimiter} {k : TokenKind} {b line : ℕ} {more : List ℕ} {ts : List Sign} → Closes d k b
-      → LexesTo (amid os ls c i false) more ts → LexesTo (amid (opener d line ∷ os) ls c i f) (b ∷ more) (sign k (b ∷ []) ∷ ts)
+  pub close_step : {d : Delimiter} {k : TokenKind} {b line : ℕ} {ts : List Sign} → Closes d k b
+      → Lexes (amid os ls c i false) ts → Lexes (amid (opener d line ∷ os) ls c i f) (sign k (b ∷ []) ∷ ts)
   unfolding token_by_class class_of
-  close_step {d} {b = b} {line} {more} {ts} end_paren r =
-      step (amid (opener d line ∷ os) ls c i f) _ (b ∷ []) more ts (amid_next (opener d line ∷ os) ls c i f b more refl) (λ e. cc) (λ o n col. r)
-  close_step {d} {b = b} {line} {more} {ts} _ r =
-      step (amid (opener d line ∷ os) ls c i f) _ (b ∷ []) more ts (amid_next (opener d line ∷ os) ls c i f b more refl) (λ e. cc) (λ o n col. r)
+  close_step {d} {b = b} {line} {ts} end_paren r =
+      step (amid (opener d line ∷ os) ls c i f) _ (b ∷ []) ts (fixed_utf8 (b ∷ []) refl) (amid_next (opener d line ∷ os) ls c i f b (text_of ts) refl) (λ e. cc) (λ o n col. r)
+  close_step {d} {b = b} {line} {ts} _ r =
+      step (amid (opener d line ∷ os) ls c i f) _ (b ∷ []) ts (fixed_utf8 (b ∷ []) refl) (amid_next (opener d line ∷ os) ls c i f b (text_of ts) refl) (λ e. cc) (λ o n col. r)

@@ -23,7 +23,7 @@ use Rattle.justfile_round_trip.proofs.LiteralTexts.LexedModes.{Sign, sign, place
 use Rattle.justfile_round_trip.proofs.LiteralTexts.Inline.{head_is, IsName, IsLiteral, IsPart, delimiter_of}
 use Rattle.justfile_round_trip.proofs.RecipeBodies.Lines.{IsComment}
 use Rattle.justfile_round_trip.proofs.RecipeBodies.BodyLines.{IsRaw}
-use Rattle.justfile_round_trip.proofs.Canon.{Shown, Value, Values, ShapeParts, Fragment, ShapeLine, expr_on, expr_signs}
+use Rattle.justfile_round_trip.proofs.Canon.{Shown, Value, Values, ShapeParts, Fragment, ShapeLine, expr_signs}
 
 -- the printer's tokens without places, and what the parser reads of them
 abbrev pub unplaced : List Sign → List Tok
@@ -79,10 +79,10 @@ abbrev mutual
   GoodValue (If c b) = GoodValue c × GoodValue b
   GoodValue (IfElse c b o) = GoodValue c × GoodValue b × GoodValue o
   GoodValue (Not e) = GoodValue e
-  GoodValue (StringLiteral expanded l) = IsString l
-  GoodValue (FormatLiteral l) = IsFormatLiteral l
-  GoodValue (FormatString start e parts) = IsFormatStart start × GoodValue e × GoodParts (kind_of start) parts
-  GoodValue (Backtick l) = IsCommand l
+  GoodValue (StringLiteral expanded l) = IsString l × IsUtf8 l
+  GoodValue (FormatLiteral l) = IsFormatLiteral l × IsUtf8 l
+  GoodValue (FormatString start e parts) = (IsFormatStart start × IsUtf8 start) × GoodValue e × GoodParts (kind_of start) parts
+  GoodValue (Backtick l) = IsCommand l × IsUtf8 l
   GoodValue (Assert name c) = GoodValue c
   GoodValue (AssertMessage name c m) = GoodValue c × GoodValue m
   GoodValue (Variable n) = IsName n
@@ -95,8 +95,8 @@ abbrev mutual
   GoodValues (tree.more e es) = GoodValue e × GoodValues es
 
   pub GoodParts : StringKind → ShapeParts → Type 0
-  GoodParts k (Last l) = IsPartOf k true l
-  GoodParts k (Continue l e parts) = IsPartOf k false l × GoodValue e × GoodParts k parts
+  GoodParts k (Last l) = IsPartOf k true l × IsUtf8 l
+  GoodParts k (Continue l e parts) = (IsPartOf k false l × IsUtf8 l) × GoodValue e × GoodParts k parts
 
 -- the tokens that end the form around an expression
 abbrev pub closes : TokenKind → Bool
@@ -153,17 +153,13 @@ pale_after (Line number (f ∷ fs) ∷ ls) = pale_after ls
 
 -- ---- items
 
-pub record GoodName (name : List ℕ) : Type 0 where
-  pub is_name : IsName name
-  pub utf8 : IsUtf8 name
-
 abbrev pub GoodNames : List (List ℕ) → Type 0
-GoodNames = AllByRecursion GoodName
+GoodNames = AllByRecursion IsName
 
 -- a path has a name at least
 abbrev pub GoodPath : List (List ℕ) → Type 0
 GoodPath [] = ⊥
-GoodPath (name ∷ names) = GoodName name × GoodNames names
+GoodPath (name ∷ names) = IsName name × GoodNames names
 
 pub record GoodComment (t : List ℕ) : Type 0 where
   pub comment : IsComment t
@@ -178,16 +174,11 @@ GoodOptionalComment (Some t) = GoodComment t
 -- ---- the trees that derive back below this limit of open expressions
 
 module _ (limit : ℕ) where
-  -- the value's tokens derive it, before any others that a value ends at
-  pub record DerivesBack (e : Value) (features : Shown) : Type 0 where
-    pub derives : (glued : Bool) (on : List Sign) → ends_value (significant true on) ≡ true → Expression lexeme nothing (BelowLimit limit) false 0 e features (significant glued (expr_signs e on)) (significant true on)
-
-  -- a value that no other is open around
+  -- a value that no other is open around: its tokens derive it, before any others that a value ends at
   pub record GoodExpression (e : Value) : Type 0 where
     pub lexes : GoodValue e
     pub features : Shown
-    pub derives : DerivesBack e features
-    pub utf8 : (more : List ℕ) → IsUtf8 more → IsUtf8 (expr_on e more)
+    pub derives : (glued : Bool) (on : List Sign) → ends_value (significant true on) ≡ true → Expression lexeme nothing (BelowLimit limit) false 0 e features (significant glued (expr_signs e on)) (significant true on)
 
   -- each text ends before the text that is printed after it, and no two texts are adjacent
   abbrev pub GoodFragments : List Fragment → Type 0

@@ -21,5 +21,4 @@ pub mod RecipeBodies
 pub mod RoundTrip
 pub mod SideBySide
 pub mod Values
-pub mod Walks
 pub mod Written

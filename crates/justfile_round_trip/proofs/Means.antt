@@ -7,7 +7,7 @@ use Rattle.justfile_model.specs.Grammars.Files.{ordered_item, ordered, sets_doc,
 use Rattle.justfile_model.specs.Meanings.Meaning.{entries_of}
 use Rattle.justfile_model.specs.Trees.LeafView.{LeafView}
 use Rattle.justfile_model.specs.Trees.Tree as tree
-use Rattle.justfile_model.specs.Trees.Tree.{Construct, WrittenItem, WrittenShape, Shape, starless, starless_argument, starless_dependency}
+use Rattle.justfile_model.specs.Trees.Tree.{Construct, WrittenItem, WrittenShape, Shape}
 use Rattle.justfile_model.proofs.Lists.Binds.{some_back}
 use Rattle.justfile_model.proofs.Meanings.Ordered.{construct_meant, meanings_of}
 use Rattle.justfile_round_trip.proofs.Canon.{ShapeItem}

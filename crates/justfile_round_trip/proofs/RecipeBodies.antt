@@ -6,6 +6,5 @@ pub mod BodyFollows
 pub mod BodyGood
 pub mod BodyLines
 pub mod BodyTokens
-pub mod BodyUtf8
 pub mod Lines
 pub mod Trimmed

@@ -35,24 +35,24 @@ use Rattle.justfile_model.proofs.Lexing.LexedLaws.{one_list}
 use Rattle.justfile_model.proofs.Derivations.Needs.{relimited}
 use Rattle.justfile_model.proofs.Printed.Normal.{normal_twice, normal_literals, normal_bindings, normal_recipes}
 use Rattle.justfile_round_trip.specs.RoundTrip.{TextDerives, times, ReadsBack, printed}
-use Rattle.justfile_round_trip.proofs.LiteralTexts.LexedModes.{Sign, placed, tok_at, toks, lexed}
+use Rattle.justfile_round_trip.proofs.LiteralTexts.LexedModes.{Sign, placed, text_of, tok_at, toks, lexed}
 use Rattle.justfile_model.proofs.Printed.PrintedItems.{AllPrintAgain, normal_again, rewritten_means, rewritten_texts, rewritten_unbroken, rewritten_undocumented, shape_again}
 use Rattle.justfile_model.proofs.Printed.PrintedLiterals.{texts_are_there, texts_of, texts_cook}
 use Rattle.justfile_model.proofs.Lexing.Spelled.{lexed_spelled}
 use Rattle.justfile_round_trip.proofs.Canon.{Shown}
-use Rattle.justfile_round_trip.proofs.Items.CanonItems.{text_on, signs, text_is}
+use Rattle.justfile_round_trip.proofs.Items.CanonItems.{signs}
 use Rattle.justfile_round_trip.proofs.Items.CountedItems.{documented_weight, normal_weight, shape_weight, undocumented_times, written_docs_weight}
 use Rattle.justfile_round_trip.proofs.DocsGood.{docs_good, start_comments}
 use Rattle.justfile_round_trip.proofs.DocsNormal.{normal_documented}
 use Rattle.justfile_round_trip.proofs.Good.{unplaced, significant}
 use Rattle.justfile_round_trip.proofs.Items.GoodItems.{AtStart, start_plain}
 use Rattle.justfile_round_trip.proofs.Means.{docs_meant, meant}
-use Rattle.justfile_round_trip.proofs.LexesBack.{lex_start}
+use Rattle.justfile_round_trip.proofs.LexesBack.{lex_start, text_is}
 use Rattle.justfile_round_trip.proofs.Values.TokenFacts.{lexed_sound}
 use Rattle.justfile_round_trip.proofs.RecipeBodies.BodyLines.{IsLevel, level_is}
 use Rattle.justfile_round_trip.proofs.RecipeBodies.BodyFacts.{lexed_bodies}
 use Rattle.justfile_round_trip.proofs.Written.{file_good}
-use Rattle.justfile_round_trip.proofs.DerivesBack.{derive_start, start_utf8}
+use Rattle.justfile_round_trip.proofs.DerivesBack.{derive_start}
 use Rattle.justfile_round_trip.proofs.Items.DeterminedItems.{of_file}
 
 -- ---- places
@@ -73,14 +73,14 @@ back_tokens : Shape → (indentation : List ℕ) → List Tok
 back_tokens s indentation = toks (text s indentation) 0 (signs indentation (docs_written s))
 
 -- the printed text is that of the items with their docs as comments
-printed_text : (limit : ℕ) (s : Shape) (indentation : List ℕ) → AtStart limit (docs_written s) → text s indentation ≡ text_on indentation (docs_written s)
-printed_text limit s indentation h = text_written indentation s ∙ text_is (docs_written s) indentation (start_plain limit h)
+printed_text : (limit : ℕ) (s : Shape) (indentation : List ℕ) → AtStart limit (docs_written s) → text s indentation ≡ text_of (signs indentation (docs_written s))
+printed_text limit s indentation h = text_written indentation s ∙ text_is limit indentation h
 
 good_lexed : (limit : ℕ) (s : Shape) (indentation : List ℕ) → IsLevel indentation → AtStart limit (docs_written s) → Lexed (text s indentation) (back_tokens s indentation)
 unfolding back_tokens
 good_lexed limit s indentation i h =
     let ts = signs indentation (docs_written s) in
-    subst (λ x. Lexed x (toks x 0 ts)) (sym (printed_text limit s indentation h)) (lexed (text_on indentation (docs_written s)) ts (lex_start limit indentation i false h))
+    subst (λ x. Lexed x (toks x 0 ts)) (sym (printed_text limit s indentation h)) (lexed (text_of ts) ts (lex_start limit indentation i false h).lexes.to)
 
 good_file : (limit : ℕ) (s : Shape) (indentation : List ℕ) → AtStart limit (docs_written s)
     → (ns : List (ConstructFeatures (Unit {0}))) × File to_lexemes (BelowLimit limit) (rewritten s) ns (significant_tokens (back_tokens s indentation))
@@ -103,9 +103,8 @@ content_numbers _ = refl
 
 numbers : (t : Tree) → bindings (shape_of t) ≡ bindings t
 numbers [] = refl
-numbers (tree.Newline ∷ t) = ap (λ n. 0 + n) (numbers t)
-numbers (tree.Comment text ∷ t) = ap (λ n. 0 + n) (numbers t)
 numbers (Construct entries content ∷ t) = λ k. content_numbers content k + numbers t k
+numbers (_ ∷ t) = ap (λ n. 0 + n) (numbers t)
 
 content_counts : (c : Content Tok Tok ℕ (Unit {0})) → content_recipes (over_content lexeme nothing nothing (λ star. star) c) ≡ content_recipes c
 content_counts (tree.Alias parts) = refl
@@ -113,9 +112,8 @@ content_counts _ = refl
 
 counts : (t : Tree) → recipes (shape_of t) ≡ recipes t
 counts [] = refl
-counts (tree.Newline ∷ t) = ap (λ n. 0 + n) (counts t)
-counts (tree.Comment text ∷ t) = ap (λ n. 0 + n) (counts t)
 counts (Construct entries content ∷ t) = λ k. content_counts content k + counts t k
+counts (_ ∷ t) = ap (λ n. 0 + n) (counts t)
 
 -- ---- the theorem
 
@@ -215,7 +213,7 @@ module _ (conditions : Conditions) where
       record {
         tree = found.0;
         found = found.1;
-        derives = record { utf8 = subst IsUtf8 (sym (printed_text limit s indentation written)) (start_utf8 limit indentation level written); tokens = back_tokens s indentation; lexed = lexed; file = found.2 };
+        derives = record { utf8 = subst IsUtf8 (sym (printed_text limit s indentation written)) (lex_start limit indentation level false written).lexes.utf8; tokens = back_tokens s indentation; lexed = lexed; file = found.2 };
         same_features = λ feature. sym (times_over nothing feature found.1) ∙ noted feature ∙ times_over nothing feature fs;
         same_shape = found.3;
         same_lexemes = same;

@@ -24,7 +24,7 @@ use Rattle.justfile_model.specs.Grammars.Files.{broken, item_broken, to_lexemes}
 use Rattle.justfile_model.specs.Printed.NormalShape.{after_newline, normal_rest, normal}
 use Rattle.justfile_model.specs.Printed.Printing.{printable_body, printable_content, printable}
 use Rattle.justfile_model.proofs.Lists.Binds.{nothing_in}
-use Rattle.justfile_round_trip.proofs.Canon.{Shown, Value, Fragment, ShapeLine, ShapeContent}
+use Rattle.justfile_round_trip.proofs.Canon.{Shown, Value, ShapeLine, ShapeContent}
 use Rattle.justfile_round_trip.proofs.Attributes.CanonAttributes.{Written, ShapeEntry}
 use Rattle.justfile_round_trip.proofs.Headers.CanonHeaders.{ShapeHeader}
 use Rattle.justfile_round_trip.proofs.Items.CanonItems.{recipe_item}
@@ -37,10 +37,10 @@ use Rattle.justfile_round_trip.proofs.Items.GoodItems as good
 use Rattle.justfile_round_trip.proofs.Items.GoodItems.{follows_body, AtStart, AtEnd, After, AfterBody, past_newline}
 use Rattle.justfile_round_trip.proofs.Means.{ShapeWritten, entries_or_none, meant}
 use Rattle.justfile_round_trip.proofs.Attributes.WrittenAttributes.{attributes_good}
-use Rattle.justfile_round_trip.proofs.Values.TokenFacts.{Around, around, outside, Known, Sound}
+use Rattle.justfile_round_trip.proofs.Values.TokenFacts.{outside, Known, Sound}
 use Rattle.justfile_round_trip.proofs.RecipeBodies.BodyTokens.{First}
 use Rattle.justfile_round_trip.proofs.RecipeBodies.BodyFacts.{situation_after, no_body, NextIs, BodySound}
-use Rattle.justfile_round_trip.proofs.RecipeBodies.BodyGood.{LineOf, LinesOf, PartsGood, AllPartsGood, inner, outside_first, indent_leads, Walked, body_read}
+use Rattle.justfile_round_trip.proofs.RecipeBodies.BodyGood.{LinesOf, inner, outside_first, indent_leads, Walked, body_read}
 use Rattle.justfile_round_trip.proofs.Headers.WrittenHeaders.{IsHeader, header_after, header_at, outside_header}
 use Rattle.justfile_round_trip.proofs.Items.WrittenParts.{file_path_good, names_good, setting_value_good}
 use Rattle.justfile_round_trip.proofs.Ahead.{Ahead, AheadOf, Passed, lexed_comment, lexed_name, past_ahead, past_token, path_good, value_good}
@@ -48,7 +48,7 @@ use Rattle.justfile_round_trip.proofs.Attributes.MeantAttributes.{entries_good}
 use Rattle.justfile_round_trip.proofs.RecipeBodies.BodyGood.{outside_after}
 use Rattle.justfile_round_trip.proofs.RecipeBodies.Trimmed.{trimmed_twice, trimmed_printable}
 use Rattle.justfile_round_trip.proofs.RecipeBodies.BodyFollows.{following, newline_follows}
-use Rattle.justfile_round_trip.proofs.Values.WrittenValues.{past, value_at, good_expression}
+use Rattle.justfile_round_trip.proofs.Values.WrittenValues.{past}
 
 -- ---- bodies
 
@@ -72,36 +72,6 @@ before_body (g.commented {comment} {newline} {indent} {rest} kind kind2 kind3) a
     record { comment = lexed_comment comment kind a.facts.0; facts = past outside indent rest kinds.Indent kind3 b.facts.2; body = past_indent indent rest kind3 b.bodies }
 
 module _ (limit : ℕ) where
-  record PartsAt (fs : List Fragment) (rest : List SignificantToken) : Type 0 where
-    parts : PartsGood limit fs
-    following : Sound outside false rest
-
-  parts_good : {ns : Shown} {fs : List Fragment} {ts rest : List SignificantToken} → LineOf limit fs ns ts rest → Sound outside false ts → PartsAt fs rest
-  parts_good (g.line_ends {token = t} {rest = rest} kind) h = record { parts = tt; following = past outside t rest kinds.Eol kind h.2 }
-  parts_good (g.body_ends kind) h = record { parts = tt; following = h }
-  parts_good (g.text {token = t} {tokens = tokens} kind r) h =
-      let m = parts_good r (past outside t tokens kinds.Text kind h.2) in
-      record { parts = (h.0.utf8, m.parts); following = m.following }
-  parts_good (g.interpolation {start = start} {end = stop} {tokens = tokens} {others = on} kind x kind2 r) h =
-      let inside : Around = around kinds.InterpolationStart [] outside in
-      let v = value_at (BelowLimit limit) x inside false (past outside start tokens kinds.InterpolationStart kind h.2) in
-      let m = parts_good r (past inside stop on kinds.InterpolationEnd kind2 v.following.2) in
-      record { parts = (good_expression limit x v, m.parts); following = m.following }
-
-  record LinesAt (ls : List ShapeLine) (rest : List SignificantToken) : Type 0 where
-    parts : AllPartsGood limit ls
-    following : Sound outside false rest
-
-  all_parts_good : {ns : Shown} {ls : List ShapeLine} {ts rest : List SignificantToken} → LinesOf limit ls ns ts rest → Sound outside false ts → LinesAt ls rest
-  all_parts_good (g.no_line {token = t} {rest = rest} kind) h = record { parts = tt; following = past outside t rest kinds.Dedent kind h.2 }
-  all_parts_good (g.empty_line {token = t} {tokens = tokens} kind r) h =
-      let m = all_parts_good r (past outside t tokens kinds.Eol kind h.2) in
-      record { parts = (tt, m.parts); following = m.following }
-  all_parts_good (g.some_line l r) h =
-      let first = parts_good l h in
-      let m = all_parts_good r first.following in
-      record { parts = (first.parts, m.parts); following = m.following }
-
   -- a recipe with a body; where levels would close within it, the file ends after it
   record BlockGood (h : ShapeHeader) (comment : Option (List ℕ)) (body : List ShapeLine) (rest : List SignificantToken) : Type 0 where
     header : GoodHeader limit h
@@ -118,15 +88,14 @@ module _ (limit : ℕ) where
   block_good {lines = lines} head unbroken before read some c h p =
       let named = header_at limit head unbroken h in
       let start = before_body before named.following in
-      let parts = all_parts_good read start.facts in
-      let body = body_read limit true read start.body parts.parts (sym (trimmed_printable lines) ∙ p) in
+      let body = body_read limit true read start.facts start.body (sym (trimmed_printable lines) ∙ p) in
       record {
         header = named.good;
         commented = start.comment;
         good = record { good = body.good; ended = trimmed_twice lines };
         some = some;
         last = body.last;
-        following = record { facts = parts.following; bodies = record { situation = no_body; is = outside_first; sound = body.sound } };
+        following = record { facts = body.facts; bodies = record { situation = no_body; is = outside_first; sound = body.sound } };
       }
 
   -- an assignment, after the word before it

@@ -1,80 +1,38 @@
 -- Raw text, read over plain bytes and piece by piece.
-use Rattle.std.proofs.Common.{◌≡◌, ℕ, zero, suc, ◌+◌, ◌<◌, ◌≤◌, Bool, true, false, cond, eqb, ltb, List, [], ◌∷◌, length, get_or, drop, refl, sym, ap, subst, ◌∙◌, arith, add-one, zero-add, drop-cons, drop-drop, length-drop, get_or-drop}
-use Rattle.std.specs.Prelude.{◌&&◌, not, min}
+use Rattle.std.proofs.Common.{◌≡◌, ℕ, zero, suc, ◌+◌, ◌<◌, ◌≤◌, Bool, true, false, cond, eqb, List, [], ◌∷◌, length, get_or, drop, refl, sym, ap, ◌∙◌, arith, add-one, zero-add, drop-cons, drop-drop, length-drop, get_or-drop}
+use Rattle.std.specs.Prelude.{min}
 use Rattle.std.specs.List.{prefix_len}
-use Rattle.std.proofs.lemmas.Bool.{and_parts}
 use Rattle.std.proofs.lemmas.Bool.Decides.{nat_tests}
 use Rattle.std.proofs.lemmas.List.Sums.{prefix_len-le-length}
-use Rattle.justfile_token.specs.declared.string_kind.StringDelimiter.{StringDelimiter}
-use Rattle.justfile_token.specs.declared.string_kind.StringDelimiter.TheVariants as delimiters
-use Rattle.justfile_token.specs.StringKind.{quote_of, escapes}
 use Rattle.justfile_model.specs.declared.raw_text.RawText.{RawText}
-use Rattle.justfile_model.specs.declared.raw_text.RawText.TheVariants.{Comment, Body, Literal}
 use Rattle.justfile_model.specs.Lexing.LiteralText.{hides, ends, pieces_len, raw_len}
-use Rattle.justfile_model.proofs.Lexing.CutLemmas.{eq_from}
 use Rattle.justfile_scan.specs.RawTexts.{is_plain, is_plain_end, IsScanStep, IsWithinRaw}
 
 -- the text from a position is the byte there and the rest
 pub cell : (bs : List ℕ) (i : ℕ) → i < length bs → drop i bs ≡ get_or bs i 0 ∷ drop (i + 1) bs
 cell bs i l = rw (add-one, drop-cons bs i 0) refl
 
-lt_true : (n : ℕ) → 0 < n → ltb 0 n ≡ true
-lt_true n h = grind (arith, nat_tests)
-
-lt_false : (n : ℕ) → n ≤ 0 → ltb 0 n ≡ false
-lt_false n h = grind (arith, nat_tests)
-
-not_none : (n : ℕ) → eqb (suc n) 0 ≡ false
-not_none n = grind (arith, nat_tests)
-
-and_false : (t : Bool) → (t && false) ≡ false
-and_false true = refl
-and_false false = refl
-
-no_choice : (t : Bool) → cond t false false ≡ false
-no_choice true = refl
-no_choice false = refl
-
 -- a plain byte hides nothing
 plain_hides : (s : RawText) (b : ℕ) (bs : List ℕ) → is_plain s b ≡ true → hides s (b ∷ bs) ≡ 0
-plain_hides Comment b bs h = refl
-plain_hides Body b bs h =
-    let brace : eqb b 123 ≡ false = grind (arith, nat_tests) in
-    rw brace refl
-plain_hides (Literal k format) b bs h =
-    let brace : eqb b 123 ≡ false = grind (arith, nat_tests) in
-    let slash : eqb b 92 ≡ false = grind (arith, nat_tests) in
-    rw (slash, brace, and_false (escapes k.delimiter), and_false format) refl
+plain_hides s b bs h = grind (arith, nat_tests)
 
 -- a plain byte doesn't begin an end
 plain_ends : (s : RawText) (b : ℕ) (bs : List ℕ) → is_plain s b ≡ true → ends s (b ∷ bs) ≡ false
-plain_ends Comment b bs h =
-    let feed : eqb b 10 ≡ false = grind (arith, nat_tests) in
-    let return : eqb b 13 ≡ false = grind (arith, nat_tests) in
-    rw (feed, return) refl
-plain_ends Body b bs h =
-    let feed : eqb b 10 ≡ false = grind (arith, nat_tests) in
-    let return : eqb b 13 ≡ false = grind (arith, nat_tests) in
-    let brace : eqb b 123 ≡ false = grind (arith, nat_tests) in
-    rw (feed, return, brace) refl
-plain_ends (Literal k format) b bs h =
-    let quote : eqb b (quote_of k.delimiter) ≡ false = grind (arith, nat_tests) in
-    let brace : eqb b 123 ≡ false = grind (arith, nat_tests) in
-    rw (quote, brace, no_choice k.indented, and_false format) refl
+plain_ends s b bs h = grind (arith, nat_tests)
 
 module _ (hides : List ℕ → ℕ) (ends : List ℕ → Bool) where
   in_hiding : (b : ℕ) (bs : List ℕ) → 0 < hides (b ∷ bs) → pieces_len hides ends 0 (b ∷ bs) ≡ suc (pieces_len hides ends (hides (b ∷ bs)) bs)
   unfolding pieces_len
-  in_hiding b bs h = rw (lt_true (hides (b ∷ bs)) h) refl
+  in_hiding b bs h = grind (arith, nat_tests)
 
   at_end : (bs : List ℕ) → hides bs ≤ 0 → ends bs ≡ true → pieces_len hides ends 0 bs ≡ 0
   unfolding pieces_len
   at_end [] h g = refl
-  at_end (b ∷ bs) h g = rw (lt_false (hides (b ∷ bs)) h) (rw g refl)
+  at_end (b ∷ bs) h g = grind (arith, nat_tests)
 
   in_plain : (b : ℕ) (bs : List ℕ) → hides (b ∷ bs) ≤ 0 → ends (b ∷ bs) ≡ false → pieces_len hides ends 0 (b ∷ bs) ≡ suc (pieces_len hides ends 0 bs)
   unfolding pieces_len
-  in_plain b bs h g = rw (lt_false (hides (b ∷ bs)) h) (rw g refl)
+  in_plain b bs h g = grind (arith, nat_tests)
 
   in_nothing : (bs : List ℕ) → length bs ≤ 0 → pieces_len hides ends 0 bs ≡ 0
   unfolding pieces_len
@@ -84,12 +42,8 @@ module _ (hides : List ℕ → ℕ) (ends : List ℕ → Bool) where
   -- past the bytes that are hidden
   past_hidden : (n : ℕ) (bs : List ℕ) → pieces_len hides ends n bs ≡ min (length bs) n + pieces_len hides ends 0 (drop (min (length bs) n) bs)
   unfolding pieces_len
-  past_hidden zero bs =
-      let none : min (length bs) 0 ≡ 0 = omega arith in
-      rw none (sym (zero-add (pieces_len hides ends 0 bs)))
-  past_hidden (suc n) [] =
-      let none : min 0 (suc n) ≡ 0 = omega arith in
-      rw none (sym (zero-add 0))
+  past_hidden zero bs = grind arith
+  past_hidden (suc n) [] = grind arith
   past_hidden (suc n) (b ∷ bs) =
       let more : min (suc (length bs)) (suc n) ≡ suc (min (length bs) n) = omega arith in
       let rest : pieces_len hides ends n bs ≡ min (length bs) n + pieces_len hides ends 0 (drop (suc (min (length bs) n)) (b ∷ bs)) = past_hidden n bs in
@@ -109,31 +63,15 @@ past_plain s (b ∷ bs) = go (is_plain s b) refl (past_plain s bs)
     go false e ih = sym (zero-add (raw_len s (b ∷ bs)))
 
 -- the text ends at a byte at which it ends whatever follows
-quote_other : (d : StringDelimiter) → (eqb (quote_of d) 92 ≡ false) × (eqb (quote_of d) 123 ≡ false)
-quote_other delimiters.Backtick = (refl, refl)
-quote_other delimiters.QuoteDouble = (refl, refl)
-quote_other delimiters.QuoteSingle = (refl, refl)
+hides_none : (s : RawText) (b : ℕ) (bs : List ℕ) → is_plain_end s b ≡ true → hides s (b ∷ bs) ≤ 0
+hides_none s b bs h = grind (arith, nat_tests)
 
-not_true : (t : Bool) → not t ≡ true → t ≡ false
-not_true true h = cc
-not_true false h = refl
-
-stops : (s : RawText) (b : ℕ) (bs : List ℕ) → is_plain_end s b ≡ true → (hides s (b ∷ bs) ≤ 0) × (ends s (b ∷ bs) ≡ true)
-stops Comment b bs h = subst (λ (c : ℕ). (hides Comment (c ∷ bs) ≤ 0) × (ends Comment (c ∷ bs) ≡ true)) (sym (eq_from b 10 h)) (omega arith, refl)
-stops Body b bs h = subst (λ (c : ℕ). (hides Body (c ∷ bs) ≤ 0) × (ends Body (c ∷ bs) ≡ true)) (sym (eq_from b 10 h)) (omega arith, refl)
-stops (Literal k format) b bs h =
-    let quote : eqb b (quote_of k.delimiter) ≡ true = (and_parts _ _ h).0 in
-    let single : k.indented ≡ false = not_true k.indented (and_parts _ _ h).1 in
-    let is = eq_from b (quote_of k.delimiter) quote in
-    let slash : eqb b 92 ≡ false = ap (λ c. eqb c 92) is ∙ (quote_other k.delimiter).0 in
-    let brace : eqb b 123 ≡ false = ap (λ c. eqb c 123) is ∙ (quote_other k.delimiter).1 in
-    let none : hides (Literal k format) (b ∷ bs) ≡ 0 = rw (slash, brace, and_false (escapes k.delimiter), and_false format) refl in
-    let end : ends (Literal k format) (b ∷ bs) ≡ true = rw (single, quote) refl in
-    (omega (arith, none), end)
+ends_here : (s : RawText) (b : ℕ) (bs : List ℕ) → is_plain_end s b ≡ true → ends s (b ∷ bs) ≡ true
+ends_here s b bs h = grind (arith, nat_tests)
 
 pub raw_none : (s : RawText) (rest : List ℕ) → is_plain_end s (get_or rest 0 0) ≡ true → raw_len s rest ≡ 0
 raw_none s [] h = in_nothing (hides s) (ends s) [] (omega arith)
-raw_none s (b ∷ bs) h = let is = stops s b bs h in at_end (hides s) (ends s) (b ∷ bs) is.0 is.1
+raw_none s (b ∷ bs) h = at_end (hides s) (ends s) (b ∷ bs) (hides_none s b bs h) (ends_here s b bs h)
 
 pub inside_stop : (s : RawText) (bs : List ℕ) (at : ℕ) → IsWithinRaw s bs at → is_plain_end s (get_or bs at 0) ≡ true → at ≡ raw_len s bs
 inside_stop s bs at h e =
@@ -155,7 +93,7 @@ pub piece_hiding : (s : RawText) (rest : List ℕ) (n : ℕ) → 0 < length rest
 piece_hiding s [] n l e h = absurd (omega arith)
 piece_hiding s (b ∷ bs) n l e h =
     let len : min (length (b ∷ bs)) (n + 1) ≡ suc (min (length bs) n) = omega arith in
-    let some = not_none (min (length bs) n) in
+    let some : eqb (suc (min (length bs) n)) 0 ≡ false = grind (arith, nat_tests) in
     let first = in_hiding (hides s) (ends s) b bs (omega (arith, e, h)) in
     let hidden : raw_len s (b ∷ bs) ≡ suc (pieces_len (hides s) (ends s) n bs) = first ∙ ap (λ k. suc (pieces_len (hides s) (ends s) k bs)) (sym e) in
     let rest : pieces_len (hides s) (ends s) n bs ≡ min (length bs) n + raw_len s (drop (suc (min (length bs) n)) (b ∷ bs)) = past_hidden (hides s) (ends s) n bs in

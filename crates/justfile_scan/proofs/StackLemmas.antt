@@ -1,18 +1,16 @@
 -- Stacks have the innermost element last in the code and first in the definitions; and runs of bytes.
-use Rattle.std.proofs.Common.{◌≡◌, ℕ, suc, ◌+◌, Bool, true, false, cond, eqb, List, [], ◌∷◌, length, take, refl, sym, ap, ◌∙◌, arith}
+use Rattle.std.proofs.Common.{◌≡◌, ℕ, Bool, false, eqb, List, [], ◌∷◌, length, take, refl, sym, ap, ◌∙◌, arith, inl, inr, one-add}
 use Rattle.std.specs.Prelude.{reverse, map, ◌||◌}
 use Rattle.std.specs.List.{list_any, prefix_len}
 use Rattle.std.specs.Str.{bytes_eq}
 use denote.Ref.{Bor}
+use Rattle.std.proofs.lemmas.Bool.{cases_Bool}
 use Rattle.std.proofs.lemmas.List.{reverse-append}
 use Rattle.std.proofs.lemmas.List.Folds.{list_any-append}
 use Rattle.justfile_model.specs.Lexing.Next.{is_level}
 
 or_swap : (a b : Bool) → (a || (b || false)) ≡ (b || a)
-or_swap true true = refl
-or_swap true false = refl
-or_swap false true = refl
-or_swap false false = refl
+or_swap a b = grind arith
 
 any_reverse : {A : Type 0} (p : A → Bool) (xs : List A) → list_any p (reverse xs) ≡ list_any p xs
 any_reverse p [] = refl
@@ -28,8 +26,7 @@ level_is levels (b ∷ bs) h = any_map levels (b ∷ bs) ∙ sym (any_reverse (�
 
 pub run_take : (p : ℕ → Bool) (bs : List ℕ) → prefix_len p (take (prefix_len p bs) bs) ≡ length (take (prefix_len p bs) bs)
 run_take p [] = refl
-run_take p (b ∷ bs) = go (p b) refl (run_take p bs)
-  where
-    go : (t : Bool) → p b ≡ t → prefix_len p (take (prefix_len p bs) bs) ≡ length (take (prefix_len p bs) bs) → prefix_len p (take (cond t (1 + prefix_len p bs) 0) (b ∷ bs)) ≡ length (take (cond t (1 + prefix_len p bs) 0) (b ∷ bs))
-    go true e ih = let s : 1 + prefix_len p bs ≡ suc (prefix_len p bs) = omega arith in rw s (rw e (omega (arith, ih)))
-    go false e ih = refl
+run_take p (b ∷ bs) = elim (cases_Bool (p b)) [
+  | inl e ↦ rw (e, one-add) (rw e (omega (arith, run_take p bs)))
+  | inr e ↦ rw e refl
+]

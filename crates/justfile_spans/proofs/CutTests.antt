@@ -22,7 +22,6 @@ levels_are _ t m = refl
 
 pub depth_grows : (k : TokenKind) (depth : ℕ) → depth_after k depth ≤ depth + 1
 depth_grows Indent depth = omega arith
-depth_grows Dedent depth = omega arith
 depth_grows _ depth = omega arith
 
 no_levels : (ls : List (List ℕ)) → nat_eq (length ls) 0 ≡ true → ls ≡ []
@@ -38,22 +37,19 @@ line_is kind (Some first) = refl
 -- ---- the next line
 
 goes_on_not : (next : Option TokenKind) → next ≢ Some Indent → next ≢ Some Eof → not (goes_on next) ≡ true
-goes_on_not None f g = refl
 goes_on_not (Some Indent) f g = absurd (f refl)
 goes_on_not (Some Eof) f g = absurd (g refl)
-goes_on_not (Some _) f g = refl
+goes_on_not _ f g = refl
 
 no_item : (next : Option TokenKind) → not (not (begins_no_item next)) ≡ true → (next ≡ Some Comment) ⊎ (next ≡ Some Eol)
-no_item None e = cc
 no_item (Some Comment) e = inl refl
 no_item (Some Eol) e = inr refl
-no_item (Some _) e = cc
+no_item _ e = cc
 
 joins_not : (line next : Option TokenKind) → line ≢ Some BracketL → (line ≡ Some Comment → (next ≡ Some Comment) ⊎ (next ≡ Some Eol)) → not (joins line next) ≡ true
-joins_not None next f g = refl
 joins_not (Some BracketL) next f g = absurd (f refl)
 joins_not (Some Comment) next f g = ⊎_elim (λ e. ap (λ n. not (not (begins_no_item n))) e) (λ e. ap (λ n. not (not (begins_no_item n))) e) (g refl)
-joins_not (Some _) next f g = refl
+joins_not _ next f g = refl
 
 -- ---- the test
 

@@ -161,10 +161,8 @@ significant_of_last (u ∷ ts) glued t d = by (significant_of_last ts false t d)
 -- ---- what a loop over the table knows
 
 depth_white : (k : TokenKind) → is_whitespace k ≡ true → (depth : ℕ) → depth_after k depth ≡ depth
-depth_white kinds.Whitespace e depth = refl
-depth_white kinds.Indent e depth = absurd cc
-depth_white kinds.Dedent e depth = absurd cc
-depth_white _ e depth = refl
+depth_white kinds.Indent e depth = cc
+depth_white _ e depth = cc
 
 line_white : (k : TokenKind) → is_whitespace k ≡ true → (line : Option TokenKind) → line_after k line ≡ line
 line_white kinds.Whitespace e line = refl
@@ -319,18 +317,8 @@ module _ (table : List TableToken) (tested : IsTested table) (tokens : List Tok)
       ∙ sym (significant_of_last at_next.front false end.tok at_end.dark)
 
   pub cut_off : (after : List TableToken) → after ≡ remove table (length table - 2) → IsCutOff tokens (map significant_of after)
-  cut_off after e = record {
-    part = at_next.front;
-    next = next.tok;
-    end = end.tok;
-    tokens_are = tokens_are;
-    cut = is_cut_there;
-    one_byte = byte_long tested.next ∙ tested.one_byte;
-    seen = at_next.dark;
-    is_end = is_end;
-    is_empty = is_empty;
-    significant_are = ap (map significant_of) (e ∙ left_is) ∙ left_marked;
-  }
+  cut_off after e =
+      search (tokens_are, is_cut_there, byte_long tested.next ∙ tested.one_byte, at_next.dark, is_end, is_empty, ap (map significant_of) (e ∙ left_is) ∙ left_marked)
 
 -- the tokens of a text end once, with nothing
 pub ends_once : (text : List ℕ) (tokens : List Tok) → IsUtf8 text → Lexed text tokens → EndsOnce tokens × EndsEmpty tokens

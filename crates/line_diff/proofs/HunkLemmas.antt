@@ -41,11 +41,7 @@ cut edits from start finish h k =
 -- lines of three parts
 parts : (part : Edit → List (List ℕ)) (all kept hunk rest : List Edit) (same : List (List ℕ)) → all ≡ kept ++ (hunk ++ rest) → flat_map part kept ≡ same
     → flat_map part all ≡ (same ++ flat_map part hunk) ++ flat_map part rest
-parts part all kept hunk rest same e f =
-    ap (flat_map part) e ∙ flat_map-append part kept (hunk ++ rest)
-    ∙ ap (λ (l : List (List ℕ)). l ++ flat_map part (hunk ++ rest)) f
-    ∙ ap (λ (l : List (List ℕ)). same ++ l) (flat_map-append part hunk rest)
-    ∙ sym (append_assoc same (flat_map part hunk) (flat_map part rest))
+parts part all kept hunk rest same e f = simp (e, f, flat_map-append, append_assoc)
 
 -- a change between the two ends of a hunk
 pub within_hunk : (edits : List Edit) (start at finish : ℕ) → start ≤ at → at < finish → finish ≤ length edits → HoldsAt IsChange edits at
@@ -110,12 +106,8 @@ module _ (edits : List Edit) (from old_before new_before : ℕ) (text : List ℕ
 -- nothing changes in the rest
 pub ends : (edits : List Edit) (from old_before new_before : ℕ) (text : List ℕ) → Reached edits from old_before new_before text → All IsKept (drop from edits)
     → AreHunks edits text
-ends edits from o n text r kept = record {
-  hunks = r.hunks;
-  leads = subst (λ hs. Leads 0 0 hs (old_lines edits) (new_lines edits)) (append-nil r.hunks) (r.leads [] (kept_old _ kept ∙ sym (kept_new _ kept)));
-  changed = r.changed;
-  is = r.is;
-}
+ends edits from o n text r kept =
+    search (subst (λ hs. Leads 0 0 hs (old_lines edits) (new_lines edits)) (append-nil r.hunks) (r.leads [] (kept_old _ kept ∙ sym (kept_new _ kept))), r)
 
 -- ---- texts
 

@@ -48,7 +48,7 @@ use Rattle.justfile_model.proofs.Completeness.ExpressionDeep.{expression_deep}
 use Rattle.justfile_model.proofs.Completeness.HeaderComplete.{CoversHeader, IsHeader, header_reached, obeying_reached, path_read}
 use Rattle.justfile_model.proofs.Completeness.HeaderCovers.{not_there, parameters_start}
 use Rattle.justfile_model.proofs.Completeness.PartComplete.{ends_pathless, file_path_reached, module_follows, names_read, no_path_read, path_begins, path_reached, path_token_is, path_unmarked, setting_follows, value_reached}
-use Rattle.justfile_model.proofs.Readers.WordsComplete.{another_follows, assigned_taken, keyword_read, line_taken, no_word_read, none_read, or_true, parameters_follow, wordless_read}
+use Rattle.justfile_model.proofs.Readers.WordsComplete.{another_follows, assigned_taken, keyword_read, line_taken, no_word_read, none_read, or_true, parameters_follow, parameters_uncalled}
 use Rattle.justfile_model.proofs.Completeness.Reaching.{Reaches, is_read, by, renoted, then, pass}
 use Rattle.justfile_model.proofs.Completeness.ReachingRules as r
 use Rattle.justfile_model.proofs.Completeness.ReachingRules.{Among, IsAt, ReachesOne, ReachesSome, all_among, among_first, among_others}
@@ -75,19 +75,7 @@ module _ {conditions : Conditions} {MayEnter : ℕ → Option SignificantToken �
   has_none : {i : WrittenItem Tok Tok ℕ Tok} {fs : List (Noted Tok)} {ts rest : Tokens} → Stands conditions MayEnter i fs ts rest → has_body i ≡ false
   has_none (of_comment kind) = refl
   has_none (of_line a (g.alias is kind kind2 p)) = refl
-  has_none (of_line a (g.assignment kind kind2 e)) = refl
-  has_none (of_line a (g.eager is kind kind2 e)) = refl
-  has_none (of_line a (g.export is kind kind2 e)) = refl
-  has_none (of_line a (g.function kind kind2 ns kind3 e)) = refl
-  has_none (of_line a (g.import is p)) = refl
-  has_none (of_line a (g.optional_import is kind p)) = refl
-  has_none (of_line a (g.module_alone is kind ends)) = refl
-  has_none (of_line a (g.module_at is kind p)) = refl
-  has_none (of_line a (g.optional_module_alone is kind kind2 none)) = refl
-  has_none (of_line a (g.optional_module_at is kind kind2 p)) = refl
-  has_none (of_line a (g.setting is is2 form value)) = refl
-  has_none (of_line a (g.unexport is kind ends)) = refl
-  has_none (of_line a (g.header h)) = refl
+  has_none (of_line a _) = refl
 
 module _ {MayEnter : ℕ → Option SignificantToken → Type 0} where
   no_comment : {items : WrittenTree} {fs : List (ConstructFeatures Tok)} {ts : Tokens} → LineEnd to_tokens MayEnter items fs ts → NotNext kinds.Comment ts
@@ -319,7 +307,7 @@ module _ (conditions : Conditions) (Hit : Option SignificantToken → Type 0) wh
       let none = parameters_follow itself itself (PastLimitAt conditions.limit Hit) ts ps in
       r.by conditions Hit (none_read conditions ns xs n name ts none)
       (rw (
-        next_left (kinds.Identifier ∷ kinds.ParenL ∷ []) (input conditions 0 (name ∷ ts) ns) (λ k. none.called k.1),
+        next_left (kinds.Identifier ∷ kinds.ParenL ∷ []) (input conditions 0 (name ∷ ts) ns) (λ k. parameters_uncalled itself itself (PastLimitAt conditions.limit Hit) ts ps k.1),
         next_left (kinds.Identifier ∷ kinds.ColonEquals ∷ []) (input conditions 0 (name ∷ ts) ns)
             (λ k. not_there kinds.ColonEquals ts (parameters_start itself itself (PastLimitAt conditions.limit Hit) ps) k.1),
         accept_left kinds.At (name ∷ ts) conditions 0 ns (λ e. cc),
@@ -447,7 +435,7 @@ module _ (conditions : Conditions) (Hit : Option SignificantToken → Type 0) wh
       → ContentReached xs c (input conditions 0 ts ns) (input conditions 0 rest (ns ++ (noted_by xs c ++ fs)))
   unfolding without_keyword import any_module accepted
   content_reached xs ns (g.assignment {name = name} {operator = operator} {tokens = ts} kind kind2 h) none n =
-      r.by conditions Hit (none_read conditions ns xs n name (operator ∷ ts) (another_follows operator ts (λ k. cc) (λ k. cc) (λ k. cc) (λ k. cc)))
+      r.by conditions Hit (none_read conditions ns xs n name (operator ∷ ts) (another_follows operator ts (λ k. cc) (λ k. cc) (λ k. cc)))
       (rw (
         next_left (kinds.Identifier ∷ kinds.ParenL ∷ []) (input conditions 0 (name ∷ operator ∷ ts) ns) (λ k. let second = k.1.0 in cc),
         next_taken (kinds.Identifier ∷ kinds.ColonEquals ∷ []) (input conditions 0 (name ∷ operator ∷ ts) ns) (kind, (kind2, tt)),
@@ -462,32 +450,7 @@ module _ (conditions : Conditions) (Hit : Option SignificantToken → Type 0) wh
       r.by conditions Hit (keyword_read conditions ns xs n (codes "alias") word (name ∷ operator ∷ ts) is (assigned_taken conditions ns name operator ts kind kind2))
       (alias_reached xs ns name operator kind kind2 p n)
   content_reached xs ns (g.function {name = name} {opener = opener} {operator = operator} {tokens = ts} kind kind2 all kind3 h) none n =
-      r.by conditions Hit (wordless_read conditions ns xs n name (opener ∷ ts)
-      (next_left (kinds.Identifier ∷ kinds.ColonEquals ∷ []) (input conditions 0 (opener ∷ ts) ns) (λ k. let first = k.0 in cc))
-      (rw (
-        next_left (kinds.Identifier ∷ kinds.Comment ∷ []) (input conditions 0 (opener ∷ ts) ns) (λ k. let first = k.0 in cc),
-        next_left (kinds.Identifier ∷ kinds.Eol ∷ []) (input conditions 0 (opener ∷ ts) ns) (λ k. let first = k.0 in cc),
-        next_left (kinds.Identifier ∷ kinds.Eof ∷ []) (input conditions 0 (opener ∷ ts) ns) (λ k. let first = k.0 in cc),
-      ) refl)
-      (rw (
-        next_left (kinds.QuestionMark ∷ []) (input conditions 0 (opener ∷ ts) ns) (λ k. let first = k.0 in cc),
-        next_left (kinds.StringToken ∷ []) (input conditions 0 (opener ∷ ts) ns) (λ k. let first = k.0 in cc),
-        next_left (kinds.Identifier ∷ kinds.StringToken ∷ []) (input conditions 0 (opener ∷ ts) ns) (λ k. let first = k.0 in cc),
-      ) refl)
-      (rw (
-        next_left (kinds.QuestionMark ∷ []) (input conditions 0 (opener ∷ ts) ns) (λ k. let first = k.0 in cc),
-        next_left (kinds.Identifier ∷ kinds.Comment ∷ []) (input conditions 0 (opener ∷ ts) ns) (λ k. let first = k.0 in cc),
-        next_left (kinds.Identifier ∷ kinds.Eol ∷ []) (input conditions 0 (opener ∷ ts) ns) (λ k. let first = k.0 in cc),
-        next_left (kinds.Identifier ∷ kinds.Eof ∷ []) (input conditions 0 (opener ∷ ts) ns) (λ k. let first = k.0 in cc),
-        next_left (kinds.Identifier ∷ kinds.StringToken ∷ []) (input conditions 0 (opener ∷ ts) ns) (λ k. let first = k.0 in cc),
-        next_left (kinds.Identifier ∷ kinds.Identifier ∷ kinds.StringToken ∷ []) (input conditions 0 (opener ∷ ts) ns) (λ k. let first = k.0 in cc),
-      ) refl)
-      (rw (
-        next_left (kinds.Identifier ∷ kinds.ColonEquals ∷ []) (input conditions 0 (opener ∷ ts) ns) (λ k. let first = k.0 in cc),
-        next_left (kinds.Identifier ∷ kinds.Comment ∷ []) (input conditions 0 (opener ∷ ts) ns) (λ k. let first = k.0 in cc),
-        next_left (kinds.Identifier ∷ kinds.Eol ∷ []) (input conditions 0 (opener ∷ ts) ns) (λ k. let first = k.0 in cc),
-        next_left (kinds.Identifier ∷ kinds.Eof ∷ []) (input conditions 0 (opener ∷ ts) ns) (λ k. let first = k.0 in cc),
-      ) refl))
+      r.by conditions Hit (none_read conditions ns xs n name (opener ∷ ts) (another_follows opener ts (λ k. cc) (λ k. cc) (λ k. cc)))
       (rw (next_taken (kinds.Identifier ∷ kinds.ParenL ∷ []) (input conditions 0 (name ∷ opener ∷ ts) ns) (kind, (kind2, tt)))
       (function_reached xs ns name opener operator kind kind2 all kind3 h n))
   content_reached xs ns (g.import {word = word} {tokens = ts} is p) none n =

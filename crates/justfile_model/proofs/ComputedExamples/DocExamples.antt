@@ -10,6 +10,7 @@ use Rattle.justfile_model.specs.Printed.Printing.{fixed_text, text}
 use Rattle.justfile_model.specs.Printed.PrintedAttributes.{docs_written}
 use Rattle.justfile_model.specs.Trees.Tree as tree
 use Rattle.justfile_model.specs.Trees.Tree.{Comment, Construct, Entry, Header, Newline, OrderedItem, Shape, assignment_of, bare_entry, commented_entry}
+use Rattle.justfile_model.proofs.ComputedExamples.Tables.{Gives, pair}
 
 abbrev with_docs : Shape → Shape
 with_docs = documented sets_doc Nothing
@@ -37,72 +38,44 @@ doc = bare_entry tt (tree.Plain kinds.Doc) ∷ []
 
 -- ---- which comments are docs
 
-first : with_docs (Comment (codes "#  a b") ∷ Newline ∷ recipe ∷ Newline ∷ []) ≡ recipe_with (Some (codes "a b")) [] ∷ Newline ∷ []
-unfolding trim_start trim_end chars encode_utf8 same_attribute
-first = refl
-
--- a `#!` line isn't a doc at the start of the file
-script : with_docs (Comment (codes "#!a") ∷ Newline ∷ recipe ∷ []) ≡ Comment (codes "#!a") ∷ Newline ∷ recipe ∷ []
-unfolding trim_start trim_end chars encode_utf8 same_attribute
-script = refl
-
--- and is one elsewhere
-later_script : with_docs (Newline ∷ Comment (codes "#!a") ∷ Newline ∷ recipe ∷ []) ≡ Newline ∷ recipe_with (Some (codes "!a")) [] ∷ []
-unfolding trim_start trim_end chars encode_utf8 same_attribute
-later_script = refl
-
--- of two comments the nearest
-nearest : with_docs (Comment (codes "# a") ∷ Newline ∷ Comment (codes "# b") ∷ Newline ∷ recipe ∷ [])
-    ≡ Comment (codes "# a") ∷ Newline ∷ recipe_with (Some (codes "b")) [] ∷ []
-unfolding trim_start trim_end chars encode_utf8 same_attribute
-nearest = refl
-
-blank_between : with_docs (Comment (codes "# a") ∷ Newline ∷ Newline ∷ recipe ∷ []) ≡ Comment (codes "# a") ∷ Newline ∷ Newline ∷ recipe ∷ []
-unfolding trim_start trim_end chars encode_utf8 same_attribute
-blank_between = refl
-
-empty : with_docs (Comment (codes "#") ∷ Newline ∷ recipe ∷ []) ≡ Comment (codes "#") ∷ Newline ∷ recipe ∷ []
-unfolding trim_start trim_end chars encode_utf8 same_attribute
-empty = refl
-
--- a comment that trails an item isn't the doc of the next one
-trailing : with_docs (assignment ∷ Comment (codes "# a") ∷ Newline ∷ recipe ∷ []) ≡ assignment ∷ Comment (codes "# a") ∷ Newline ∷ recipe ∷ []
-unfolding trim_start trim_end chars encode_utf8 same_attribute
-trailing = refl
-
-on_assignment : with_docs (Comment (codes "# a") ∷ Newline ∷ assignment ∷ []) ≡ Comment (codes "# a") ∷ Newline ∷ assignment ∷ []
-unfolding trim_start trim_end chars encode_utf8 same_attribute
-on_assignment = refl
-
--- an attribute sets the doc, or sets that there is none
-unchanged : with_docs (Comment (codes "# a") ∷ Newline ∷ recipe_with None doc ∷ []) ≡ Comment (codes "# a") ∷ Newline ∷ recipe_with None doc ∷ []
-unfolding trim_start trim_end chars encode_utf8 same_attribute
-unchanged = refl
-
 -- ---- how docs are printed
-
--- on a line before the attributes
-before_attributes : text (recipe_with (Some (codes "x")) private ∷ Newline ∷ []) [] ≡ codes "# x\n[private]\nfoo:\n"
-unfolding fixed_text same_attribute
-before_attributes = refl
 
 as_comment : docs_written (recipe_with (Some (codes "x")) private ∷ []) ≡ Comment (codes "# x") ∷ Newline ∷ recipe_with None private ∷ []
 unfolding fixed_text same_attribute
 as_comment = refl
 
--- a doc that an attribute hides is not printed
-hidden : text (recipe_with (Some (codes "x")) doc ∷ []) [] ≡ codes "[doc]\nfoo:"
-unfolding fixed_text same_attribute
-hidden = refl
-
--- a comment after an attribute isn't a doc
-after_attribute : with_docs (assignment ∷ Newline ∷ recipe_with None (commented_entry (codes "# x") (bare_entry tt (tree.Plain kinds.Private)) ∷ []) ∷ [])
-    ≡ assignment ∷ Newline ∷ recipe_with None (commented_entry (codes "# x") (bare_entry tt (tree.Plain kinds.Private)) ∷ []) ∷ []
+docs : Gives with_docs (
+    (Comment (codes "#  a b") ∷ Newline ∷ recipe ∷ Newline ∷ [], recipe_with (Some (codes "a b")) [] ∷ Newline ∷ [])
+    -- a `#!` line isn't a doc at the start of the file
+    ∷ (Comment (codes "#!a") ∷ Newline ∷ recipe ∷ [], Comment (codes "#!a") ∷ Newline ∷ recipe ∷ [])
+    -- and is one elsewhere
+    ∷ (Newline ∷ Comment (codes "#!a") ∷ Newline ∷ recipe ∷ [], Newline ∷ recipe_with (Some (codes "!a")) [] ∷ [])
+    -- of two comments the nearest
+    ∷ (Comment (codes "# a") ∷ Newline ∷ Comment (codes "# b") ∷ Newline ∷ recipe ∷ [], Comment (codes "# a") ∷ Newline ∷ recipe_with (Some (codes "b")) [] ∷ [])
+    -- a blank line is between
+    ∷ (Comment (codes "# a") ∷ Newline ∷ Newline ∷ recipe ∷ [], Comment (codes "# a") ∷ Newline ∷ Newline ∷ recipe ∷ [])
+    -- the comment is empty
+    ∷ (Comment (codes "#") ∷ Newline ∷ recipe ∷ [], Comment (codes "#") ∷ Newline ∷ recipe ∷ [])
+    -- a comment that trails an item isn't the doc of the next one
+    ∷ (assignment ∷ Comment (codes "# a") ∷ Newline ∷ recipe ∷ [], assignment ∷ Comment (codes "# a") ∷ Newline ∷ recipe ∷ [])
+    -- an assignment has none
+    ∷ (Comment (codes "# a") ∷ Newline ∷ assignment ∷ [], Comment (codes "# a") ∷ Newline ∷ assignment ∷ [])
+    -- an attribute sets the doc, or sets that there is none
+    ∷ (Comment (codes "# a") ∷ Newline ∷ recipe_with None doc ∷ [], Comment (codes "# a") ∷ Newline ∷ recipe_with None doc ∷ [])
+    -- a comment after an attribute isn't a doc
+    ∷ pair (assignment ∷ Newline ∷ recipe_with None (commented_entry (codes "# x") (bare_entry tt (tree.Plain kinds.Private)) ∷ []) ∷ [])
+    (assignment ∷ Newline ∷ recipe_with None (commented_entry (codes "# x") (bare_entry tt (tree.Plain kinds.Private)) ∷ []) ∷ [])
+    ∷ [])
 unfolding trim_start trim_end chars encode_utf8 same_attribute
-after_attribute = refl
+docs = refl
 
--- and a doc is printed before the attribute and its comment
-before_comment : text (recipe_with (Some (codes "d")) (commented_entry (codes "# x") (bare_entry tt (tree.Plain kinds.Private)) ∷ []) ∷ Newline ∷ []) []
-    ≡ codes "# d\n[private] # x\nfoo:\n"
+printed_docs : Gives (λ (s : Shape). text s []) (
+    -- on a line before the attributes
+    (recipe_with (Some (codes "x")) private ∷ Newline ∷ [], codes "# x\n[private]\nfoo:\n")
+    -- a doc that an attribute hides is not printed
+    ∷ (recipe_with (Some (codes "x")) doc ∷ [], codes "[doc]\nfoo:")
+    -- and a doc is printed before the attribute and its comment
+    ∷ (recipe_with (Some (codes "d")) (commented_entry (codes "# x") (bare_entry tt (tree.Plain kinds.Private)) ∷ []) ∷ Newline ∷ [], codes "# d\n[private] # x\nfoo:\n")
+    ∷ [])
 unfolding fixed_text same_attribute
-before_comment = refl
+printed_docs = refl

@@ -1,23 +1,27 @@
 -- A derivation of a file, moved to tokens that differ only in their positions, to other projections, and to another limit.
-use Rattle.std.proofs.Common.{◌≡◌, ℕ, false, true, List, [], ◌∷◌, map, Option, None, Some, refl, sym, subst, ap, ◌∙◌}
+use Rattle.std.proofs.Common.{◌≡◌, ℕ, false, true, List, [], ◌∷◌, map, Option, None, Some, refl, sym, subst, ap, ◌∙◌, Bool, ◌++◌}
 use Rattle.std.specs.Str.{trim_end}
 use Rattle.justfile_vocabulary.specs.declared.token_kind.TokenKind.{TokenKind}
-use Rattle.justfile_model.specs.Grammars.AttributeLines.{AttributeLines}
+use Rattle.justfile_model.specs.Grammars.AttributeLines.{AttributeLines, IsKey, ArgumentOf, Arguments, AttributeOf, AttributesEnd, Bracketed}
 use Rattle.justfile_model.specs.Lexing.SignificantTokens.{SignificantToken}
 use Rattle.justfile_model.specs.Trees.Tree as tree
-use Rattle.justfile_model.specs.Trees.Tree.{Expr, Fragment, BodyLine, Line, Content, Construct, WrittenAttribute, WrittenItem, line_before, Header, Quoted, SettingValue, bare_module, bare_recipe, assignment_of, trimmed, over_expr, over_fragment, over_header, over_line, over_quoted, over_setting_value, over_written_attribute, over_content, over_item}
-use Rattle.justfile_model.specs.Grammars.Features.{ConstructFeatures, Noted, over_features}
-use Rattle.justfile_model.specs.Grammars.Expressions.{Tokens, front, IsKind, Expression}
-use Rattle.justfile_model.specs.Grammars.Grammar as g
+use Rattle.justfile_model.specs.Trees.Tree.{Expr, Fragment, BodyLine, Line, Content, Construct, WrittenAttribute, WrittenItem, line_before, Header, Quoted, SettingValue, bare_module, bare_recipe, assignment_of, trimmed, over_expr, over_fragment, over_header, over_line, over_quoted, over_setting_value, over_written_attribute, over_content, over_item, Argument, bare_attribute, commented_attribute, commented_line, over_argument, Dependency, DependencyArgument, Parameter, over_dependency, over_dependency_argument, over_parameter, Exprs, over_exprs}
+use Rattle.justfile_model.specs.Grammars.Features.{ConstructFeatures, Noted, over_features, over_noted}
+use Rattle.justfile_model.specs.Grammars.Expressions.{Tokens, front, IsKind, Expression, NotNext, Value, IsWord, Sequence}
 use Rattle.justfile_model.specs.Grammars.Grammar.{TokenProjection, LineRest, BeforeBody, NotEmpty, BodyLines, OnLine, Block, Items, ItemRest, LineEnd, File}
-use Rattle.justfile_model.specs.Grammars.Headers.{HeaderOf, PathOf}
-use Rattle.justfile_model.specs.Grammars.ItemParts.{FilePath, Names, ValueOf}
+use Rattle.justfile_model.specs.Grammars.Headers.{HeaderOf, PathOf, PathRest, NamedParameter, ParameterOf, Parameters, DependencyArguments, DependencyOf, Dependencies, AllDependencies, NamedHeader}
+use Rattle.justfile_model.specs.Grammars.ItemParts.{FilePath, Names, ValueOf, EndsLine, NoPath, NotNamedString}
 use Rattle.justfile_model.specs.Grammars.Settings.{SettingForm}
-use Rattle.justfile_model.proofs.Derivations.CarryAttributes.{attribute_lines}
 use Rattle.justfile_model.proofs.Derivations.CarryExpressions as expressions
-use Rattle.justfile_model.proofs.Derivations.CarryExpressions.{Same, Pairs, nil, cons, filled, first, same_kind_of, Carried, until, of_tokens, of_one, of_two}
-use Rattle.justfile_model.proofs.Derivations.CarryHeaders as headers
-use Rattle.justfile_model.proofs.Derivations.CarryParts as parts
+use Rattle.justfile_model.proofs.Derivations.CarryExpressions.{Same, Pairs, nil, cons, filled, first, same_kind_of, Carried, until, of_tokens, of_one, of_two, both_alike, same_marked_of, turned, past, rederived, same_word_of}
+use Rattle.justfile_vocabulary.specs.declared.token_kind.TokenKind.TheVariants as kinds
+use Rattle.justfile_model.specs.Meanings.AttributeKinds.{name_takes_keys}
+use Rattle.justfile_model.proofs.Printed.Commented.{commented_map}
+use Rattle.justfile_model.specs.declared.parameter_kind.ParameterKind.{ParameterKind}
+use Rattle.justfile_model.specs.Grammars.Grammar as g
+use Rattle.justfile_model.specs.Grammars.AttributeLines as lines
+use Rattle.justfile_model.specs.Grammars.Headers as heads
+use Rattle.justfile_model.specs.Grammars.ItemParts as in_parts
 
 -- how the projections of tokens are mapped
 pub record Maps (A B C S D E F G : Type 0) : Type 0 where
@@ -62,6 +66,22 @@ module _ {A B C D E F : Type 0} (f : A → D) (h : B → E) (k : C → F) where
 
 -- ---- derivations
 
+-- elements that are replaced as ones of which there is a first
+record FirstElement {A B : Type 0} (es : Exprs A B) : Type 0 where
+  one : Expr A B
+  others : Exprs A B
+  is : es ≡ tree.more one others
+
+first_element : {A B A' B' C D : Type 0} (f : A → C) (h : B → D) (f' : A' → C) (h' : B' → D) (xs : Exprs A' B') (e : Expr A B) (es : Exprs A B)
+    → over_exprs f' h' xs ≡ over_exprs f h (tree.more e es) → FirstElement xs
+first_element f h f' h' tree.none e es k = cc
+first_element f h f' h' (tree.more x xs) e es k = record { one = x; others = xs; is = refl }
+
+-- an interpreter of the elements of a list that has a first one
+abbrev interpreted : {A B : Type 0} → Exprs A B → SettingValue A B
+interpreted tree.none = tree.Truth true
+interpreted (tree.more e es) = tree.Interpreter e es
+
 -- items with their derivation, which are the others over some leaves, and so are their features
 pub record Whole {X X' Y B B' D : Type 0} (m : X → Y) (m' : X' → Y) (h : B → D) (h' : B' → D) (R : X' → List (ConstructFeatures B') → Type 0) (e : X) (fs : List (ConstructFeatures B)) : Type 0 where
   pub tree : X'
@@ -102,41 +122,380 @@ module _ {A B C S A' B' C' S' D E F G : Type 0} (projection : TokenProjection A 
       → Carried Rel (over_expr m.leaf m.position) (over_expr m'.leaf m'.position) m.position m'.position (λ x n r. Expression kept'.leaf kept'.position MayEnter' false 0 x n us r) e fs rest
   expression e us s = expressions.expression projection.leaf projection.position MayEnter Rel weak kept'.leaf kept'.position MayEnter' m.leaf m.position m'.leaf m'.position kept_alike.leaves kept_alike.positions opens e us s
 
-  attributes : {ws : List (WrittenAttribute A B)} {fs : List (Noted B)} {ts rest : Tokens} → AttributeLines projection.leaf projection.position MayEnter ws fs ts rest
-      → (us : Tokens) → Pairs Rel ts us
-      → Carried Rel (map (over_written_attribute m.leaf m.position)) (map (over_written_attribute m'.leaf m'.position)) m.position m'.position
-      (λ x n r. AttributeLines kept'.leaf kept'.position MayEnter' x n us r) ws fs rest
-  attributes a us s =
-      attribute_lines projection.leaf projection.position MayEnter Rel weak kept'.leaf kept'.position MayEnter' m.leaf m.position m'.leaf m'.position kept_alike.leaves kept_alike.positions opens a us s
+  value : {e : Expr A B} {fs : List (Noted B)} {ts rest : Tokens} → Value projection.leaf projection.position MayEnter 0 e fs ts rest → (us : Tokens) → Pairs Rel ts us
+      → Carried Rel (over_expr m.leaf m.position) (over_expr m'.leaf m'.position) m.position m'.position (λ x n r. Value kept'.leaf kept'.position MayEnter' 0 x n us r) e fs rest
+  value e us s = expressions.value projection.leaf projection.position MayEnter Rel weak kept'.leaf kept'.position MayEnter' m.leaf m.position m'.leaf m'.position kept_alike.leaves kept_alike.positions opens e us s
 
-  header : {x : Header A B S} {fs : List (Noted B)} {ts rest : Tokens} → HeaderOf projection.leaf projection.position projection.star MayEnter x fs ts rest → (us : Tokens) → Pairs Rel ts us
-      → Carried Rel (over_header m.leaf m.position m.star) (over_header m'.leaf m'.position m'.star) m.position m'.position
-      (λ x n r. HeaderOf kept'.leaf kept'.position kept'.star MayEnter' x n us r) x fs rest
-  header x us s =
-      headers.header projection.leaf projection.position projection.star MayEnter Rel weak kept'.leaf kept'.position kept'.star MayEnter' m.leaf m.position m.star m'.leaf m'.position m'.star
-      kept_alike.leaves kept_alike.positions kept_alike.stars opens x us s
+  before : {kind : TokenKind} {t u : SignificantToken} → Rel t u → IsKind kind u → IsKind kind t
+  before s = same_kind_of (turned (weak _ _ s))
 
-  path : {ns : List A} {ts rest : Tokens} → PathOf projection.leaf ns ts rest → (us : Tokens) → Pairs Rel ts us
-      → Carried Rel (map m.leaf) (map m'.leaf) m.position m'.position (λ x n r. PathOf kept'.leaf x us r) ns [] rest
-  path p us s =
-      headers.path projection.leaf projection.position projection.star MayEnter Rel weak kept'.leaf kept'.position kept'.star MayEnter' m.leaf m.position m.star m'.leaf m'.position m'.star
-      kept_alike.leaves kept_alike.positions kept_alike.stars opens p us s
+  next_of : (kind : TokenKind) {ts us : Tokens} → Pairs Rel ts us → NotNext kind ts → NotNext kind us
+  next_of kind nil n = tt
+  next_of kind (cons s ss) n = λ e. n (before s e)
 
-  file_path : {p : Quoted A} {ts rest : Tokens} → FilePath projection.leaf p ts rest → (us : Tokens) → Pairs Rel ts us
-      → Carried Rel (over_quoted m.leaf m.position) (over_quoted m'.leaf m'.position) m.position m'.position (λ x n r. FilePath kept'.leaf x us r) p [] rest
-  file_path p us s =
-      parts.file_path projection.leaf projection.position MayEnter Rel weak kept'.leaf kept'.position MayEnter' m.leaf m.position m'.leaf m'.position kept_alike.leaves kept_alike.positions opens p us s
+  word_of : {word : List ℕ} {t u : SignificantToken} → Rel t u → IsWord word t → IsWord word u
+  word_of s = same_word_of (weak _ _ s)
 
-  names : {ns : List A} {ts rest : Tokens} → Names projection.leaf ns ts rest → (us : Tokens) → Pairs Rel ts us
-      → Carried Rel (map m.leaf) (map m'.leaf) m.position m'.position (λ x n r. Names kept'.leaf x us r) ns [] rest
-  names ns us s =
-      parts.names projection.leaf projection.position MayEnter Rel weak kept'.leaf kept'.position MayEnter' m.leaf m.position m'.leaf m'.position kept_alike.leaves kept_alike.positions opens ns us s
+  ends_line : {ts us : Tokens} → Pairs Rel ts us → EndsLine ts → EndsLine us
+  ends_line nil ends = elim ends [ ]
+  ends_line (cons s ss) (in_parts.at_comment kind) = in_parts.at_comment (kind_of s kind)
+  ends_line (cons s ss) (in_parts.at_line_end kind) = in_parts.at_line_end (kind_of s kind)
+  ends_line (cons s ss) (in_parts.at_file_end kind) = in_parts.at_file_end (kind_of s kind)
+
+  not_named : {ts us : Tokens} → Pairs Rel ts us → NotNamedString ts → NotNamedString us
+  not_named nil n = tt
+  not_named (cons s nil) n = tt
+  not_named (cons s (cons s2 ss)) n = λ e e2. n (before s e) (before s2 e2)
+
+  no_path : {ts us : Tokens} → Pairs Rel ts us → NoPath ts → NoPath us
+  no_path ss n = record { unmarked = next_of kinds.StringToken ss n.unmarked; marked = not_named ss n.marked }
+
+  -- the features of two rows
+  both : (fs gs : List (Noted B)) (fs' gs' : List (Noted B')) → map (over_noted m'.position) fs' ≡ map (over_noted m.position) fs
+      → map (over_noted m'.position) gs' ≡ map (over_noted m.position) gs → map (over_noted m'.position) (fs' ++ gs') ≡ map (over_noted m.position) (fs ++ gs)
+  both = both_alike (over_noted m.position) (over_noted m'.position)
+
+  key_of : {ts us : Tokens} → Pairs Rel ts us → IsKey ts → IsKey us
+  key_of nil k = k
+  key_of (cons s nil) k = kind_of s k
+  key_of (cons s (cons s2 ss)) k = (kind_of s k.0, λ m. k.1 (same_marked_of (turned (weak _ _ s)) (turned (weak _ _ s2)) m))
+
+  -- a key was one before
+  key_before : {ts us : Tokens} → Pairs Rel ts us → IsKey us → IsKey ts
+  key_before nil k = k
+  key_before (cons s nil) k = same_kind_of (turned (weak _ _ s)) k
+  key_before (cons s (cons s2 ss)) k = (same_kind_of (turned (weak _ _ s)) k.0, λ m. k.1 (same_marked_of (weak _ _ s) (weak _ _ s2) m))
+
+  abbrev ArgumentCarried : (Argument A' B' → List (Noted B') → Tokens → Type 0) → Argument A B → List (Noted B) → Tokens → Type 0
+  ArgumentCarried R a fs rest = Carried Rel (over_argument m.leaf m.position) (over_argument m'.leaf m'.position) m.position m'.position R a fs rest
+
+  abbrev WrittenCarried : (List (Argument A' B') → List (Noted B') → Tokens → Type 0) → List (Argument A B) → List (Noted B) → Tokens → Type 0
+  WrittenCarried R all fs rest = Carried Rel (map (over_argument m.leaf m.position)) (map (over_argument m'.leaf m'.position)) m.position m'.position R all fs rest
+
+  abbrev AttributeCarried : (WrittenAttribute A' B' → List (Noted B') → Tokens → Type 0) → WrittenAttribute A B → List (Noted B) → Tokens → Type 0
+  AttributeCarried R w fs rest = Carried Rel (over_written_attribute m.leaf m.position) (over_written_attribute m'.leaf m'.position) m.position m'.position R w fs rest
+
+  abbrev AttributesCarried : (List (WrittenAttribute A' B') → List (Noted B') → Tokens → Type 0) → List (WrittenAttribute A B) → List (Noted B) → Tokens
+      → Type 0
+  AttributesCarried R ws fs rest = Carried Rel (map (over_written_attribute m.leaf m.position)) (map (over_written_attribute m'.leaf m'.position)) m.position m'.position R ws fs rest
+
+  -- ---- attributes
+
+  argument : {keys : Bool} {a : Argument A B} {fs : List (Noted B)} {ts rest : Tokens} → ArgumentOf projection.leaf projection.position MayEnter keys a fs ts rest → (us : Tokens)
+      → Pairs Rel ts us → ArgumentCarried (λ x n r. ArgumentOf kept'.leaf kept'.position MayEnter' keys x n us r) a fs rest
+  argument (lines.positional {first = t} not e) us (cons {u = u} {us = us2} s ss) =
+      let x = expression e (u ∷ us2) (cons s ss) in
+      of_one x (tree.Positional (kept'.position u.tok) x.tree) (lines.positional (λ is k. not is (key_before (cons s ss) k)) x.derives)
+      (λ i. tree.Positional (kept_alike.positions t u s i) (x.alike i))
+  argument (lines.bare {key = t} is not) us (cons {u = u} s ss) =
+      of_tokens (tree.Bare (kept'.leaf u.tok)) (lines.bare (key_of (cons s ss) is) (next_of kinds.Equals ss not)) (λ i. tree.Bare (kept_alike.leaves t u s i)) ss
+  argument (lines.keyed {key = t} kind kind2 e) us (cons {u = u} s (cons {us = us2} s2 ss)) =
+      let x = expression e us2 ss in
+      of_one x (tree.Keyed (kept'.leaf u.tok) x.tree) (lines.keyed (kind_of s kind) (kind_of s2 kind2) x.derives) (λ i. tree.Keyed (kept_alike.leaves t u s i) (x.alike i))
+
+  arguments : {keys : Bool} {all : List (Argument A B)} {fs : List (Noted B)} {ts rest : Tokens} → Arguments projection.leaf projection.position MayEnter keys all fs ts rest
+      → (us : Tokens) → Pairs Rel ts us → WrittenCarried (λ x n r. Arguments kept'.leaf kept'.position MayEnter' keys x n us r) all fs rest
+  arguments (lines.none kind) us (cons s ss) =
+      of_tokens [] (lines.none (kind_of s kind)) refl ss
+  arguments (lines.last a kind) us s =
+      let x = until (argument a us s) in
+      of_one (past x) (x.tree ∷ []) (lines.last x.derives (kind_of x.related kind)) (λ i. x.alike i ∷ [])
+  arguments (lines.more a kind others) us s =
+      let x = until (argument a us s) in
+      let y = arguments others x.after x.same in
+      of_two (past x) y (x.tree ∷ y.tree) (lines.more x.derives (kind_of x.related kind) y.derives) (λ i. x.alike i ∷ y.alike i)
+
+  attribute : {w : WrittenAttribute A B} {fs : List (Noted B)} {ts rest : Tokens} → AttributeOf projection.leaf projection.position MayEnter w fs ts rest → (us : Tokens)
+      → Pairs Rel ts us → AttributeCarried (λ x n r. AttributeOf kept'.leaf kept'.position MayEnter' x n us r) w fs rest
+  attribute (lines.plain {name = t} kind nc np) us (cons {u = u} s ss) =
+      of_tokens (bare_attribute (kept'.leaf u.tok) []) (lines.plain (kind_of s kind) (next_of kinds.Colon ss nc) (next_of kinds.ParenL ss np))
+      (λ i. bare_attribute (kept_alike.leaves t u s i) []) ss
+  attribute (lines.short {name = t} {first = first} kind kind2 e) us (cons {u = u} s (cons s2 (cons {u = v} {us = us2} s3 ss))) =
+      let x = expression e (v ∷ us2) (cons s3 ss) in
+      of_one x (bare_attribute (kept'.leaf u.tok) (tree.Positional (kept'.position v.tok) x.tree ∷ [])) (lines.short (kind_of s kind) (kind_of s2 kind2) x.derives)
+      (λ i. bare_attribute (kept_alike.leaves t u s i) (tree.Positional (kept_alike.positions first v s3 i) (x.alike i) ∷ []))
+  attribute (lines.long {name = t} kind kind2 all) us (cons {u = u} s (cons {us = us2} s2 ss)) =
+      let x = arguments all us2 ss in
+      of_one x (bare_attribute (kept'.leaf u.tok) x.tree)
+      (lines.long (kind_of s kind) (kind_of s2 kind2)
+      (subst (λ lexeme. Arguments kept'.leaf kept'.position MayEnter' (name_takes_keys lexeme) x.tree x.features us2 x.after) (weak t u s).lexeme x.derives))
+      (λ i. bare_attribute (kept_alike.leaves t u s i) (x.alike i))
+
+  bracketed : {ws : List (WrittenAttribute A B)} {fs : List (Noted B)} {ts rest : Tokens} → Bracketed projection.leaf projection.position MayEnter ws fs ts rest → (us : Tokens)
+      → Pairs Rel ts us → AttributesCarried (λ x n r. Bracketed kept'.leaf kept'.position MayEnter' x n us r) ws fs rest
+  bracketed (lines.last w kind) us s =
+      let x = until (attribute w us s) in
+      of_one (past x) (x.tree ∷ []) (lines.last x.derives (kind_of x.related kind)) (λ i. x.alike i ∷ [])
+  bracketed (lines.more w kind others) us s =
+      let x = until (attribute w us s) in
+      let y = bracketed others x.after x.same in
+      of_two (past x) y (x.tree ∷ y.tree) (lines.more x.derives (kind_of x.related kind) y.derives) (λ i. x.alike i ∷ y.alike i)
+
+  -- the end of a line, with its comment
+  record Ended (comment : Option (List ℕ)) (us : Tokens) (rest : Tokens) : Type 0 where
+    after : Tokens
+    derives : AttributesEnd kept'.leaf kept'.position MayEnter' comment us after
+    same : Pairs Rel rest after
+
+  attributes_end : {comment : Option (List ℕ)} {ts rest : Tokens} → AttributesEnd projection.leaf projection.position MayEnter comment ts rest → (us : Tokens) → Pairs Rel ts us
+      → Ended comment us rest
+  attributes_end (lines.bare kind) us (cons s ss) = record { after = _; derives = lines.bare (kind_of s kind); same = ss }
+  attributes_end (lines.commented {comment = t} kind kind2) us (cons {u = u} s (cons {u = newline} {us = after} s2 ss)) =
+      record {
+        after = after;
+        derives = subst (λ text. AttributesEnd kept'.leaf kept'.position MayEnter' (Some text) (u ∷ newline ∷ after) after) (comment_of t u s)
+            (lines.commented (kind_of s kind) (kind_of s2 kind2));
+        same = ss;
+      }
+
+  attribute_lines : {ws : List (WrittenAttribute A B)} {fs : List (Noted B)} {ts rest : Tokens} → AttributeLines projection.leaf projection.position MayEnter ws fs ts rest
+      → (us : Tokens) → Pairs Rel ts us → AttributesCarried (λ x n r. AttributeLines kept'.leaf kept'.position MayEnter' x n us r) ws fs rest
+  attribute_lines (lines.none not) us s =
+      of_tokens [] (lines.none (next_of kinds.BracketL s not)) refl s
+  attribute_lines (lines.line {ws = ws} {others = vs} {comment = comment} kind b e others) us (cons {us = us2} s ss) =
+      let x = bracketed b us2 ss in
+      let y = attributes_end e x.after x.same in
+      let z = attribute_lines others y.after y.same in
+      of_two x z (commented_line comment x.tree ++ z.tree) (lines.line (kind_of s kind) x.derives y.derives z.derives)
+      (both_alike (over_written_attribute m.leaf m.position) (over_written_attribute m'.leaf m'.position) (commented_line comment ws) vs (commented_line comment x.tree) z.tree
+      (commented_map (over_written_attribute m'.leaf m'.position) commented_attribute commented_attribute (λ c w. refl) comment x.tree
+      ∙ ap (commented_line comment) x.alike
+      ∙ sym (commented_map (over_written_attribute m.leaf m.position) commented_attribute commented_attribute (λ c w. refl) comment ws))
+      z.alike)
+
+  -- ---- paths, which have no features
+
+  abbrev NamesCarried : (List A' → Tokens → Type 0) → List A → Tokens → Type 0
+  NamesCarried R names rest = Carried Rel (map m.leaf) (map m'.leaf) m.position m'.position (λ x n r. R x r) names [] rest
+
+  path_rest : {names : List A} {ts rest : Tokens} → PathRest projection.leaf names ts rest → (us : Tokens) → Pairs Rel ts us
+      → NamesCarried (λ x r. PathRest kept'.leaf x us r) names rest
+  path_rest (heads.last not) us s =
+      of_tokens [] (heads.last (next_of kinds.ColonColon s not)) refl s
+  path_rest (heads.next {name = t} kind kind2 more) us (cons s (cons {u = u} {us = us2} s2 ss)) =
+      let x = path_rest more us2 ss in
+      of_tokens (kept'.leaf u.tok ∷ x.tree) (heads.next (kind_of s kind) (kind_of s2 kind2) x.derives) (λ i. kept_alike.leaves t u s2 i ∷ x.alike i) x.same
+
+  path : {names : List A} {ts rest : Tokens} → PathOf projection.leaf names ts rest → (us : Tokens) → Pairs Rel ts us → NamesCarried (λ x r. PathOf kept'.leaf x us r) names rest
+  path (heads.path {name = t} kind more) us (cons {u = u} {us = us2} s ss) =
+      let x = path_rest more us2 ss in
+      of_tokens (kept'.leaf u.tok ∷ x.tree) (heads.path (kind_of s kind) x.derives) (λ i. kept_alike.leaves t u s i ∷ x.alike i) x.same
+
+  -- ---- parameters
+
+  abbrev ParameterCarried : (Parameter A' B' → List (Noted B') → Tokens → Type 0) → Parameter A B → List (Noted B) → Tokens → Type 0
+  ParameterCarried R p fs rest = Carried Rel (over_parameter m.leaf m.position) (over_parameter m'.leaf m'.position) m.position m'.position R p fs rest
+
+  abbrev ParametersCarried : (List (Parameter A' B') → List (Noted B') → Tokens → Type 0) → List (Parameter A B) → List (Noted B) → Tokens → Type 0
+  ParametersCarried R ps fs rest = Carried Rel (map (over_parameter m.leaf m.position)) (map (over_parameter m'.leaf m'.position)) m.position m'.position R ps fs rest
+
+  named_parameter : {kind : ParameterKind} {export : Bool} {p : Parameter A B} {fs : List (Noted B)} {ts rest : Tokens}
+      → NamedParameter projection.leaf projection.position MayEnter kind export p fs ts rest → (us : Tokens) → Pairs Rel ts us
+      → ParameterCarried (λ x n r. NamedParameter kept'.leaf kept'.position MayEnter' kind export x n us r) p fs rest
+  named_parameter {kind} {export} (heads.required {name = t} is not) us (cons {u = u} s ss) =
+      of_tokens (record { kind = kind; export = export; name = kept'.leaf u.tok; default = None }) (heads.required (kind_of s is) (next_of kinds.Equals ss not))
+      (λ i. record { kind = kind; export = export; name = kept_alike.leaves t u s i; default = None }) ss
+  named_parameter {kind} {export} (heads.optional {name = t} is is2 e) us (cons {u = u} s (cons {us = us2} s2 ss)) =
+      let x = value e us2 ss in
+      of_one x (record { kind = kind; export = export; name = kept'.leaf u.tok; default = Some x.tree }) (heads.optional (kind_of s is) (kind_of s2 is2) x.derives)
+      (λ i. record { kind = kind; export = export; name = kept_alike.leaves t u s i; default = Some (x.alike i) })
+
+  parameter : {kind : ParameterKind} {p : Parameter A B} {fs : List (Noted B)} {ts rest : Tokens} → ParameterOf projection.leaf projection.position MayEnter kind p fs ts rest
+      → (us : Tokens) → Pairs Rel ts us → ParameterCarried (λ x n r. ParameterOf kept'.leaf kept'.position MayEnter' kind x n us r) p fs rest
+  parameter (heads.exported is p) us (cons {us = us2} s ss) =
+      let x = named_parameter p us2 ss in rederived x (heads.exported (kind_of s is) x.derives)
+  parameter (heads.unexported p) us s =
+      let x = named_parameter p us s in rederived x (heads.unexported x.derives)
+
+  -- the parameter that takes several arguments, before the colon
+  last_parameter : {kind : ParameterKind} {p : Parameter A B} {fs : List (Noted B)} {ts rest : Tokens} {colon : SignificantToken} (us us2 : Tokens)
+      → ParameterOf projection.leaf projection.position MayEnter kind p fs ts (colon ∷ rest) → IsKind kinds.Colon colon → Pairs Rel ts us2
+      → ((x : Parameter A' B') (gs : List (Noted B')) (after : Tokens) (u : SignificantToken) → ParameterOf kept'.leaf kept'.position MayEnter' kind x gs us2 (u ∷ after)
+      → IsKind kinds.Colon u → Parameters kept'.leaf kept'.position MayEnter' (x ∷ []) gs us after)
+      → ParametersCarried (λ x n r. Parameters kept'.leaf kept'.position MayEnter' x n us r) (p ∷ []) fs rest
+  last_parameter us us2 p colon ss derives =
+      let x = until (parameter p us2 ss) in
+      of_one (past x) (x.tree ∷ []) (derives x.tree x.features x.after x.partner x.derives (kind_of x.related colon)) (λ i. x.alike i ∷ [])
+
+  parameters : {ps : List (Parameter A B)} {fs : List (Noted B)} {ts rest : Tokens} → Parameters projection.leaf projection.position MayEnter ps fs ts rest
+      → (us : Tokens) → Pairs Rel ts us → ParametersCarried (λ x n r. Parameters kept'.leaf kept'.position MayEnter' x n us r) ps fs rest
+  parameters (heads.none is) us (cons s ss) =
+      of_tokens [] (heads.none (kind_of s is)) refl ss
+  parameters (heads.more p others) us s =
+      let x = parameter p us s in
+      let y = parameters others x.after x.same in
+      of_two x y (x.tree ∷ y.tree) (heads.more x.derives y.derives) (λ i. x.alike i ∷ y.alike i)
+  parameters (heads.plus is p colon) us (cons {us = us2} s ss) = last_parameter us us2 p colon ss (λ x gs after u d e. heads.plus (kind_of s is) d e)
+  parameters (heads.star is p colon) us (cons {us = us2} s ss) = last_parameter us us2 p colon ss (λ x gs after u d e. heads.star (kind_of s is) d e)
+
+  -- ---- dependencies
+
+  abbrev ArgumentsCarried : (List (DependencyArgument A' B' S') → List (Noted B') → Tokens → Type 0) → List (DependencyArgument A B S) → List (Noted B) → Tokens
+      → Type 0
+  ArgumentsCarried R all fs rest = Carried Rel (map (over_dependency_argument m.leaf m.position m.star)) (map (over_dependency_argument m'.leaf m'.position m'.star)) m.position m'.position R all fs rest
+
+  abbrev DependencyCarried : (Dependency A' B' S' → List (Noted B') → Tokens → Type 0) → Dependency A B S → List (Noted B) → Tokens → Type 0
+  DependencyCarried R d fs rest = Carried Rel (over_dependency m.leaf m.position m.star) (over_dependency m'.leaf m'.position m'.star) m.position m'.position R d fs rest
+
+  abbrev DependenciesCarried : (List (Dependency A' B' S') → List (Noted B') → Tokens → Type 0) → List (Dependency A B S) → List (Noted B) → Tokens → Type 0
+  DependenciesCarried R ds fs rest = Carried Rel (map (over_dependency m.leaf m.position m.star)) (map (over_dependency m'.leaf m'.position m'.star)) m.position m'.position R ds fs rest
+
+  dependency_arguments : {all : List (DependencyArgument A B S)} {fs : List (Noted B)} {ts rest : Tokens}
+      → DependencyArguments projection.leaf projection.position projection.star MayEnter all fs ts rest → (us : Tokens) → Pairs Rel ts us
+      → ArgumentsCarried (λ x n r. DependencyArguments kept'.leaf kept'.position kept'.star MayEnter' x n us r) all fs rest
+  dependency_arguments (heads.none is) us (cons s ss) =
+      of_tokens [] (heads.none (kind_of s is)) refl ss
+  dependency_arguments (heads.plain e others) us s =
+      let x = expression e us s in
+      let y = dependency_arguments others x.after x.same in
+      of_two x y (record { star = None; value = x.tree } ∷ y.tree) (heads.plain x.derives y.derives) (λ i. record { star = None; value = x.alike i } ∷ y.alike i)
+  dependency_arguments (heads.starred {mark = t} is e others) us (cons {u = u} {us = us2} s ss) =
+      let x = value e us2 ss in
+      let y = dependency_arguments others x.after x.same in
+      of_two x y (record { star = Some (kept'.star u.tok); value = x.tree } ∷ y.tree) (heads.starred (kind_of s is) x.derives y.derives)
+      (λ i. record { star = Some (kept_alike.stars t u s i); value = x.alike i } ∷ y.alike i)
+
+  dependency : {d : Dependency A B S} {fs : List (Noted B)} {ts rest : Tokens} → DependencyOf projection.leaf projection.position projection.star MayEnter d fs ts rest
+      → (us : Tokens) → Pairs Rel ts us → DependencyCarried (λ x n r. DependencyOf kept'.leaf kept'.position kept'.star MayEnter' x n us r) d fs rest
+  dependency (heads.bare p) us s =
+      let x = path p us s in
+      of_tokens (record { star = None; path = x.tree; arguments = [] }) (heads.bare x.derives) (λ i. record { star = None; path = x.alike i; arguments = [] }) x.same
+  dependency (heads.plain is p all) us (cons {us = us2} s ss) =
+      let x = path p us2 ss in
+      let y = dependency_arguments all x.after x.same in
+      of_one y (record { star = None; path = x.tree; arguments = y.tree }) (heads.plain (kind_of s is) x.derives y.derives)
+      (λ i. record { star = None; path = x.alike i; arguments = y.alike i })
+  dependency (heads.starred {mark = t} is is2 p all) us (cons {u = u} s (cons {us = us2} s2 ss)) =
+      let x = path p us2 ss in
+      let y = dependency_arguments all x.after x.same in
+      of_one y (record { star = Some (kept'.star u.tok); path = x.tree; arguments = y.tree }) (heads.starred (kind_of s is) (kind_of s2 is2) x.derives y.derives)
+      (λ i. record { star = Some (kept_alike.stars t u s i); path = x.alike i; arguments = y.alike i })
+
+  dependencies : {ds : List (Dependency A B S)} {fs : List (Noted B)} {ts rest : Tokens} → Dependencies projection.leaf projection.position projection.star MayEnter ds fs ts rest
+      → (us : Tokens) → Pairs Rel ts us → DependenciesCarried (λ x n r. Dependencies kept'.leaf kept'.position kept'.star MayEnter' x n us r) ds fs rest
+  dependencies (heads.none not not2 not3) us s =
+      of_tokens [] (heads.none (next_of kinds.Identifier s not) (next_of kinds.Asterisk s not2) (next_of kinds.ParenL s not3)) refl s
+  dependencies (heads.more d others) us s =
+      let x = dependency d us s in
+      let y = dependencies others x.after x.same in
+      of_two x y (x.tree ∷ y.tree) (heads.more x.derives y.derives) (λ i. x.alike i ∷ y.alike i)
+
+  -- those before `&&`, and those after it
+  record AllCarried (us : Tokens) (ds ss : List (Dependency A B S)) (fs : List (Noted B)) (rest : Tokens) : Type 0 where
+    priors : List (Dependency A' B' S')
+    subsequents : List (Dependency A' B' S')
+    features : List (Noted B')
+    after : Tokens
+    derives : AllDependencies kept'.leaf kept'.position kept'.star MayEnter' priors subsequents features us after
+    priors_alike : map (over_dependency m'.leaf m'.position m'.star) priors ≡ map (over_dependency m.leaf m.position m.star) ds
+    subsequents_alike : map (over_dependency m'.leaf m'.position m'.star) subsequents ≡ map (over_dependency m.leaf m.position m.star) ss
+    noted_alike : map (over_noted m'.position) features ≡ map (over_noted m.position) fs
+    same : Pairs Rel rest after
+
+  all_dependencies : {ds ss : List (Dependency A B S)} {fs : List (Noted B)} {ts rest : Tokens} → AllDependencies projection.leaf projection.position projection.star MayEnter ds ss fs ts rest
+      → (us : Tokens) → Pairs Rel ts us → AllCarried us ds ss fs rest
+  all_dependencies (heads.priors ds not) us s =
+      let x = dependencies ds us s in
+      record {
+        priors = x.tree;
+        subsequents = [];
+        features = x.features;
+        after = x.after;
+        derives = heads.priors x.derives (next_of kinds.AmpersandAmpersand x.same not);
+        priors_alike = x.alike;
+        subsequents_alike = refl;
+        noted_alike = x.noted_alike;
+        same = x.same;
+      }
+  all_dependencies (heads.both {d = d} {others = others} {fs = fs} {gs = gs} ds is ss) us s =
+      let x = until (dependencies ds us s) in
+      let y = dependencies ss x.after x.same in
+      let full = filled (over_dependency m.leaf m.position m.star) (over_dependency m'.leaf m'.position m'.star) y.tree d others y.alike in
+      record {
+        priors = x.tree;
+        subsequents = full.one ∷ full.more;
+        features = x.features ++ y.features;
+        after = y.after;
+        derives = heads.both x.derives (kind_of x.related is)
+            (subst (λ a. Dependencies kept'.leaf kept'.position kept'.star MayEnter' a y.features x.after y.after) full.is y.derives);
+        priors_alike = x.alike;
+        subsequents_alike = ap (map (over_dependency m'.leaf m'.position m'.star)) (sym full.is) ∙ y.alike;
+        noted_alike = both fs gs x.features y.features x.noted_alike y.noted_alike;
+        same = y.same;
+      }
+
+  -- ---- headers
+
+  abbrev HeaderCarried : (Header A' B' S' → List (Noted B') → Tokens → Type 0) → Header A B S → List (Noted B) → Tokens → Type 0
+  HeaderCarried R x fs rest = Carried Rel (over_header m.leaf m.position m.star) (over_header m'.leaf m'.position m'.star) m.position m'.position R x fs rest
+
+  named_header : {quiet : Bool} {x : Header A B S} {fs : List (Noted B)} {ts rest : Tokens} → NamedHeader projection.leaf projection.position projection.star MayEnter quiet x fs ts rest
+      → (us : Tokens) → Pairs Rel ts us → HeaderCarried (λ x n r. NamedHeader kept'.leaf kept'.position kept'.star MayEnter' quiet x n us r) x fs rest
+  named_header {quiet} (heads.header {fs = fs} {gs = gs} {name = t} is ps ds) us (cons {u = u} {us = us2} s ss) =
+      let x = parameters ps us2 ss in
+      let y = all_dependencies ds x.after x.same in
+      record {
+        tree = record { quiet = quiet; name = kept'.leaf u.tok; parameters = x.tree; priors = y.priors; subsequents = y.subsequents };
+        features = x.features ++ y.features;
+        after = y.after;
+        derives = heads.header (kind_of s is) x.derives y.derives;
+        alike = λ i. record { quiet = quiet; name = kept_alike.leaves t u s i; parameters = x.alike i; priors = y.priors_alike i; subsequents = y.subsequents_alike i };
+        noted_alike = both fs gs x.features y.features x.noted_alike y.noted_alike;
+        same = y.same;
+      }
+
+  header : {x : Header A B S} {fs : List (Noted B)} {ts rest : Tokens} → HeaderOf projection.leaf projection.position projection.star MayEnter x fs ts rest
+      → (us : Tokens) → Pairs Rel ts us → HeaderCarried (λ x n r. HeaderOf kept'.leaf kept'.position kept'.star MayEnter' x n us r) x fs rest
+  header (heads.quiet is e) us (cons {us = us2} s ss) =
+      let x = named_header e us2 ss in rederived x (heads.quiet (kind_of s is) x.derives)
+  header (heads.loud e) us s =
+      let x = named_header e us s in rederived x (heads.loud x.derives)
+
+  -- ---- parts of items
+
+  abbrev PathCarried : (Quoted A' → Tokens → Type 0) → Quoted A → Tokens → Type 0
+  PathCarried R path rest = Carried Rel (over_quoted m.leaf m.position) (over_quoted m'.leaf m'.position) m.position m'.position (λ x n r. R x r) path [] rest
+
+  file_path : {path : Quoted A} {ts rest : Tokens} → FilePath projection.leaf path ts rest → (us : Tokens) → Pairs Rel ts us → PathCarried (λ x r. FilePath kept'.leaf x us r) path rest
+  file_path (in_parts.plain {token = t} kind) us (cons {u = u} s ss) =
+      of_tokens (record { expanded = false; token = kept'.leaf u.tok }) (in_parts.plain (kind_of s kind)) (λ i. record { expanded = false; token = kept_alike.leaves t u s i }) ss
+  file_path (in_parts.expanded {token = t} is kind) us (cons s (cons {u = u} s2 ss)) =
+      of_tokens (record { expanded = true; token = kept'.leaf u.tok }) (in_parts.expanded (word_of s is) (kind_of s2 kind))
+      (λ i. record { expanded = true; token = kept_alike.leaves t u s2 i }) ss
+
+  names : {ns : List A} {ts rest : Tokens} → Names projection.leaf ns ts rest → (us : Tokens) → Pairs Rel ts us → NamesCarried (λ x r. Names kept'.leaf x us r) ns rest
+  names (in_parts.none kind) us (cons s ss) =
+      of_tokens [] (in_parts.none (kind_of s kind)) refl ss
+  names (in_parts.last {name = t} kind kind2) us (cons {u = u} s (cons s2 ss)) =
+      of_tokens (kept'.leaf u.tok ∷ []) (in_parts.last (kind_of s kind) (kind_of s2 kind2)) (λ i. kept_alike.leaves t u s i ∷ []) ss
+  names (in_parts.more {name = t} kind kind2 others) us (cons {u = u} s (cons {us = us2} s2 ss)) =
+      let x = names others us2 ss in
+      of_tokens (kept'.leaf u.tok ∷ x.tree) (in_parts.more (kind_of s kind) (kind_of s2 kind2) x.derives) (λ i. kept_alike.leaves t u s i ∷ x.alike i) x.same
+
+  abbrev ValueCarried : (SettingValue A' B' → List (Noted B') → Tokens → Type 0) → SettingValue A B → List (Noted B) → Tokens → Type 0
+  ValueCarried R value fs rest = Carried Rel (over_setting_value m.leaf m.position) (over_setting_value m'.leaf m'.position) m.position m'.position R value fs rest
 
   setting_value : {form : SettingForm} {value : SettingValue A B} {fs : List (Noted B)} {ts rest : Tokens} → ValueOf projection.leaf projection.position MayEnter form value fs ts rest
-      → (us : Tokens) → Pairs Rel ts us
-      → Carried Rel (over_setting_value m.leaf m.position) (over_setting_value m'.leaf m'.position) m.position m'.position (λ x n r. ValueOf kept'.leaf kept'.position MayEnter' form x n us r) value fs rest
-  setting_value value us s =
-      parts.setting_value projection.leaf projection.position MayEnter Rel weak kept'.leaf kept'.position MayEnter' m.leaf m.position m'.leaf m'.position kept_alike.leaves kept_alike.positions opens value us s
+      → (us : Tokens) → Pairs Rel ts us → ValueCarried (λ x n r. ValueOf kept'.leaf kept'.position MayEnter' form x n us r) value fs rest
+  setting_value (in_parts.bare ends) us s =
+      of_tokens (tree.Truth true) (in_parts.bare (ends_line s ends)) refl s
+  setting_value (in_parts.yes kind is) us (cons s (cons s2 ss)) = of_tokens (tree.Truth true) (in_parts.yes (kind_of s kind) (word_of s2 is)) refl ss
+  setting_value (in_parts.no kind is) us (cons s (cons s2 ss)) = of_tokens (tree.Truth false) (in_parts.no (kind_of s kind) (word_of s2 is)) refl ss
+  setting_value (in_parts.expression kind e) us (cons {us = us2} s ss) =
+      let x = expression e us2 ss in
+      of_one x (tree.Value x.tree) (in_parts.expression (kind_of s kind) x.derives) (λ i. tree.Value (x.alike i))
+  setting_value (in_parts.plain kind e) us (cons {us = us2} s ss) =
+      let x = expression e us2 ss in
+      of_one x (tree.Value x.tree) (in_parts.plain (kind_of s kind) x.derives) (λ i. tree.Value (x.alike i))
+  setting_value (in_parts.interpreter {e = e} {es = es} kind kind2 all) us (cons s (cons {us = us2} s2 ss)) =
+      let x = expressions.sequence projection.leaf projection.position MayEnter Rel weak kept'.leaf kept'.position MayEnter' m.leaf m.position m'.leaf m'.position kept_alike.leaves kept_alike.positions opens all us2 ss in
+      let y = first_element m.leaf m.position m'.leaf m'.position x.tree e es x.alike in
+      of_one x (tree.Interpreter y.one y.others)
+      (in_parts.interpreter (kind_of s kind) (kind_of s2 kind2)
+      (subst (λ l. Sequence kept'.leaf kept'.position MayEnter' kinds.BracketR 0 l x.features us2 x.after) y.is x.derives))
+      (λ i. interpreted ((sym (λ j. over_exprs m'.leaf m'.position (y.is j)) ∙ x.alike) i))
+
+  -- ---- bodies, lines and items
 
   pub line_rest : {fragments : List (Fragment A B)} {fs : List (Noted B)} {ts rest : Tokens} → LineRest projection.leaf projection.position MayEnter fragments fs ts rest → (us : Tokens) → Pairs Rel ts us → FragmentsOf (λ x n r. LineRest kept'.leaf kept'.position MayEnter' x n us r) fragments fs rest
   line_rest (g.line_ends kind) us (cons s ss) = of_tokens [] (g.line_ends (kind_of s kind)) refl ss
@@ -189,17 +548,17 @@ module _ {A B C S A' B' C' S' D E F G : Type 0} (projection : TokenProjection A 
   on_line (g.alias {name = t} is kind kind2 p) us (cons s (cons {u = u} s2 (cons {us = us2} s3 ss))) =
       let x = path p us2 ss in
       of_tokens (tree.Alias (record { name = kept'.leaf u.tok; target = x.tree }))
-      (g.alias (parts.word_of Rel weak s is) (kind_of s2 kind) (kind_of s3 kind2) x.derives)
+      (g.alias (word_of s is) (kind_of s2 kind) (kind_of s3 kind2) x.derives)
       (λ i. tree.Alias (record { name = kept_alike.leaves t u s2 i; target = x.alike i })) x.same
   on_line (g.eager {name = t} is kind kind2 e) us (cons s (cons {u = u} s2 (cons s3 ss))) =
       let x = expression e _ ss in
       of_one x (tree.Assignment (assignment_of true false (kept'.leaf u.tok) x.tree))
-      (g.eager (parts.word_of Rel weak s is) (kind_of s2 kind) (kind_of s3 kind2) x.derives)
+      (g.eager (word_of s is) (kind_of s2 kind) (kind_of s3 kind2) x.derives)
       (λ i. tree.Assignment (assignment_of true false (kept_alike.leaves t u s2 i) (x.alike i)))
   on_line (g.export {name = t} is kind kind2 e) us (cons s (cons {u = u} s2 (cons s3 ss))) =
       let x = expression e _ ss in
       of_one x (tree.Assignment (assignment_of false true (kept'.leaf u.tok) x.tree))
-      (g.export (parts.word_of Rel weak s is) (kind_of s2 kind) (kind_of s3 kind2) x.derives)
+      (g.export (word_of s is) (kind_of s2 kind) (kind_of s3 kind2) x.derives)
       (λ i. tree.Assignment (assignment_of false true (kept_alike.leaves t u s2 i) (x.alike i)))
   on_line (g.function {name = t} kind kind2 ns kind3 e) us (cons {u = u} s (cons {us = us2} s2 ss)) =
       let x = until (names ns us2 ss) in
@@ -209,36 +568,36 @@ module _ {A B C S A' B' C' S' D E F G : Type 0} (projection : TokenProjection A 
       (λ i. tree.Function (record { name = kept_alike.leaves t u s i; parameters = x.alike i; body = y.alike i }))
   on_line (g.import is p) us (cons {us = us2} s ss) =
       let x = file_path p us2 ss in
-      of_tokens (tree.Import (record { optional = false; path = x.tree })) (g.import (parts.word_of Rel weak s is) x.derives)
+      of_tokens (tree.Import (record { optional = false; path = x.tree })) (g.import (word_of s is) x.derives)
       (λ i. tree.Import (record { optional = false; path = x.alike i })) x.same
   on_line (g.optional_import is kind p) us (cons s (cons {us = us2} s2 ss)) =
       let x = file_path p us2 ss in
-      of_tokens (tree.Import (record { optional = true; path = x.tree })) (g.optional_import (parts.word_of Rel weak s is) (kind_of s2 kind) x.derives)
+      of_tokens (tree.Import (record { optional = true; path = x.tree })) (g.optional_import (word_of s is) (kind_of s2 kind) x.derives)
       (λ i. tree.Import (record { optional = true; path = x.alike i })) x.same
   on_line (g.module_alone {name = t} is kind ends) us (cons s (cons {u = u} s2 ss)) =
       of_tokens (tree.Module (bare_module false (kept'.leaf u.tok) None))
-      (g.module_alone (parts.word_of Rel weak s is) (kind_of s2 kind) (parts.ends_line Rel weak ss ends))
+      (g.module_alone (word_of s is) (kind_of s2 kind) (ends_line ss ends))
       (λ i. tree.Module (bare_module false (kept_alike.leaves t u s2 i) None)) ss
   on_line (g.module_at {name = t} is kind p) us (cons s (cons {u = u} {us = us2} s2 ss)) =
       let x = file_path p us2 ss in
-      of_tokens (tree.Module (bare_module false (kept'.leaf u.tok) (Some x.tree))) (g.module_at (parts.word_of Rel weak s is) (kind_of s2 kind) x.derives)
+      of_tokens (tree.Module (bare_module false (kept'.leaf u.tok) (Some x.tree))) (g.module_at (word_of s is) (kind_of s2 kind) x.derives)
       (λ i. tree.Module (bare_module false (kept_alike.leaves t u s2 i) (Some (x.alike i)))) x.same
-  on_line (g.optional_module_alone {name = t} is kind kind2 no_path) us (cons s (cons s2 (cons {u = u} s3 ss))) =
+  on_line (g.optional_module_alone {name = t} is kind kind2 none) us (cons s (cons s2 (cons {u = u} s3 ss))) =
       of_tokens (tree.Module (bare_module true (kept'.leaf u.tok) None))
-      (g.optional_module_alone (parts.word_of Rel weak s is) (kind_of s2 kind) (kind_of s3 kind2) (parts.no_path Rel weak ss no_path))
+      (g.optional_module_alone (word_of s is) (kind_of s2 kind) (kind_of s3 kind2) (no_path ss none))
       (λ i. tree.Module (bare_module true (kept_alike.leaves t u s3 i) None)) ss
   on_line (g.optional_module_at {name = t} is kind kind2 p) us (cons s (cons s2 (cons {u = u} {us = us2} s3 ss))) =
       let x = file_path p us2 ss in
       of_tokens (tree.Module (bare_module true (kept'.leaf u.tok) (Some x.tree)))
-      (g.optional_module_at (parts.word_of Rel weak s is) (kind_of s2 kind) (kind_of s3 kind2) x.derives)
+      (g.optional_module_at (word_of s is) (kind_of s2 kind) (kind_of s3 kind2) x.derives)
       (λ i. tree.Module (bare_module true (kept_alike.leaves t u s3 i) (Some (x.alike i)))) x.same
   on_line (g.setting {keyword = keyword} {name = t} is is2 form value) us (cons s (cons {u = u} {us = us2} s2 ss)) =
       let x = setting_value value us2 ss in
       of_one x (tree.Setting (record { keyword = keyword; name = kept'.leaf u.tok; value = x.tree }))
-      (g.setting (parts.word_of Rel weak s is) (parts.word_of Rel weak s2 is2) form x.derives)
+      (g.setting (word_of s is) (word_of s2 is2) form x.derives)
       (λ i. tree.Setting (record { keyword = keyword; name = kept_alike.leaves t u s2 i; value = x.alike i }))
   on_line (g.unexport {name = t} is kind ends) us (cons s (cons {u = u} s2 ss)) =
-      of_tokens (tree.Unexport (kept'.leaf u.tok)) (g.unexport (parts.word_of Rel weak s is) (kind_of s2 kind) (parts.ends_line Rel weak ss ends))
+      of_tokens (tree.Unexport (kept'.leaf u.tok)) (g.unexport (word_of s is) (kind_of s2 kind) (ends_line ss ends))
       (λ i. tree.Unexport (kept_alike.leaves t u s2 i)) ss
   on_line (g.assignment {name = t} kind kind2 e) us (cons {u = u} s (cons s2 ss)) =
       let x = expression e _ ss in
@@ -266,7 +625,7 @@ module _ {A B C S A' B' C' S' D E F G : Type 0} (projection : TokenProjection A 
         let x = following b _ ss in
         record { tree = tree.Comment (trim_end u.tok.lexeme) ∷ x.tree; features = x.features; derives = g.comment (kind_of s kind) x.derives; alike = λ i. tree.Comment (comment_of t u s i) ∷ x.alike i; noted_alike = x.noted_alike }
     items (g.on_line a o b) us s =
-        let w = attributes a us s in
+        let w = attribute_lines a us s in
         let x = on_line o w.after w.same in
         let y = following b x.after x.same in
         record {
@@ -277,7 +636,7 @@ module _ {A B C S A' B' C' S' D E F G : Type 0} (projection : TokenProjection A 
           noted_alike = λ i. record { attributes = w.noted_alike i; content = x.noted_alike i } ∷ y.noted_alike i;
         }
     items (g.block a b more) us s =
-        let w = attributes a us s in
+        let w = attribute_lines a us s in
         let x = block b w.after w.same in
         let y = items more x.after x.same in
         record {

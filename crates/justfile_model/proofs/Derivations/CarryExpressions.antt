@@ -114,26 +114,26 @@ pub of_tokens : {X X' Y B B' D : Type 0} {Rel : SignificantToken → Significant
 of_tokens tree derives alike same =
     record { tree = tree; features = []; after = _; derives = derives; alike = alike; noted_alike = refl; same = same }
 
+-- what is made up to the end of a part, with these features
+of_noted : {X X' Y Z Z' W B B' D : Type 0} {Rel : SignificantToken → SignificantToken → Type 0} {m : X → Y} {m' : X' → Y} {n : Z → W} {n' : Z' → W}
+    {h : B → D} {h' : B' → D} {R : X' → List (Noted B') → Tokens → Type 0} {Q : Z' → List (Noted B') → Tokens → Type 0} {e : X} {z : Z} {fs gs : List (Noted B)}
+    {rest : Tokens} (x : Carried Rel m m' h h' R e fs rest) (tree : Z') (features : List (Noted B')) → Q tree features x.after → n' tree ≡ n z
+    → map (over_noted h') features ≡ map (over_noted h) gs → Carried Rel n n' h h' Q z gs rest
+of_noted x tree features derives alike noted_alike =
+    record { tree = tree; features = features; after = x.after; derives = derives; alike = alike; noted_alike = noted_alike; same = x.same }
+
 module _ {X X' Y Z Z' W B B' D : Type 0} {Rel : SignificantToken → SignificantToken → Type 0} {m : X → Y} {m' : X' → Y} {n : Z → W} {n' : Z' → W}
     {h : B → D} {h' : B' → D} {R : X' → List (Noted B') → Tokens → Type 0} {Q : Z' → List (Noted B') → Tokens → Type 0} {e : X} {z : Z} {fs : List (Noted B)}
     {between : Tokens} (x : Carried Rel m m' h h' R e fs between) where
   -- what is made of one part, with its features
   pub of_one : (tree : Z') → Q tree x.features x.after → n' tree ≡ n z → Carried Rel n n' h h' Q z fs between
-  of_one tree derives alike =
-      record { tree = tree; features = x.features; after = x.after; derives = derives; alike = alike; noted_alike = x.noted_alike; same = x.same }
+  of_one tree derives alike = of_noted x tree x.features derives alike x.noted_alike
 
   -- what is made of two parts, with the features of both
   pub of_two : {V V' U : Type 0} {l : V → U} {l' : V' → U} {R' : V' → List (Noted B') → Tokens → Type 0} {e' : V} {gs : List (Noted B)} {rest : Tokens}
       (y : Carried Rel l l' h h' R' e' gs rest) (tree : Z') → Q tree (x.features ++ y.features) y.after → n' tree ≡ n z → Carried Rel n n' h h' Q z (fs ++ gs) rest
-  of_two {gs = gs} y tree derives alike = record {
-    tree = tree;
-    features = x.features ++ y.features;
-    after = y.after;
-    derives = derives;
-    alike = alike;
-    noted_alike = both_alike (over_noted h) (over_noted h') fs gs x.features y.features x.noted_alike y.noted_alike;
-    same = y.same;
-  }
+  of_two {gs = gs} y tree derives alike =
+      of_noted y tree (x.features ++ y.features) derives alike (both_alike (over_noted h) (over_noted h') fs gs x.features y.features x.noted_alike y.noted_alike)
 
 -- the same tree, of another derivation
 pub rederived : {X X' Y B B' D : Type 0} {Rel : SignificantToken → SignificantToken → Type 0} {m : X → Y} {m' : X' → Y} {h : B → D} {h' : B' → D}
@@ -270,15 +270,9 @@ module _ {A B A' B' C D : Type 0} (leaf : Tok → A) (position : Tok → B) (May
     expression {d = d} {ts = ts} (g.or {ls = ls} {rs = rs} {operator = t} o left kind right) us s =
         let l = until (disjunct left us s) in
         let r = expression right l.after l.same in
-        record {
-          tree = tree.Or l.tree r.tree;
-          features = l.features ++ noted features.LogicalOperator (position' l.partner.tok) ++ r.features;
-          after = r.after;
-          derives = g.or (opens d ts us s o) l.derives (kind_of l.related kind) r.derives;
-          alike = λ i. tree.Or (l.alike i) (r.alike i);
-          noted_alike = noted_between features.LogicalOperator t l.partner l.related ls rs l.features r.features l.noted_alike r.noted_alike;
-          same = r.same;
-        }
+        of_noted r (tree.Or l.tree r.tree) (l.features ++ noted features.LogicalOperator (position' l.partner.tok) ++ r.features)
+        (g.or (opens d ts us s o) l.derives (kind_of l.related kind) r.derives) (λ i. tree.Or (l.alike i) (r.alike i))
+        (noted_between features.LogicalOperator t l.partner l.related ls rs l.features r.features l.noted_alike r.noted_alike)
     expression {d = d} {ts = ts} (g.disjunct o left n) us s =
         let l = disjunct left us s in
         rederived l (g.disjunct (opens d ts us s o) l.derives (next_of _ l.same n))
@@ -287,15 +281,9 @@ module _ {A B A' B' C D : Type 0} (leaf : Tok → A) (position : Tok → B) (May
     disjunct (g.and {ls = ls} {rs = rs} {operator = t} left kind right) us s =
         let l = until (comparison left us s) in
         let r = disjunct right l.after l.same in
-        record {
-          tree = tree.And l.tree r.tree;
-          features = l.features ++ noted features.LogicalOperator (position' l.partner.tok) ++ r.features;
-          after = r.after;
-          derives = g.and l.derives (kind_of l.related kind) r.derives;
-          alike = λ i. tree.And (l.alike i) (r.alike i);
-          noted_alike = noted_between features.LogicalOperator t l.partner l.related ls rs l.features r.features l.noted_alike r.noted_alike;
-          same = r.same;
-        }
+        of_noted r (tree.And l.tree r.tree) (l.features ++ noted features.LogicalOperator (position' l.partner.tok) ++ r.features)
+        (g.and l.derives (kind_of l.related kind) r.derives) (λ i. tree.And (l.alike i) (r.alike i))
+        (noted_between features.LogicalOperator t l.partner l.related ls rs l.features r.features l.noted_alike r.noted_alike)
     disjunct (g.comparison left n) us s =
         let l = comparison left us s in
         rederived l (g.comparison l.derives (next_of _ l.same n))
@@ -304,15 +292,10 @@ module _ {A B A' B' C D : Type 0} (leaf : Tok → A) (position : Tok → B) (May
     comparison {c = c} (g.compare {ls = ls} {rs = rs} {operator = t} by left kind right) us s =
         let l = until (conjunct left us s) in
         let r = conjunct right l.after l.same in
-        record {
-          tree = tree.Comparison l.tree by (position' l.partner.tok) r.tree;
-          features = l.features ++ compared c (position' l.partner.tok) ++ r.features;
-          after = r.after;
-          derives = g.compare by l.derives (kind_of l.related kind) r.derives;
-          alike = λ i. tree.Comparison (l.alike i) by (positions t l.partner l.related i) (r.alike i);
-          noted_alike = three ls (compared c (position t.tok)) rs l.features (compared c (position' l.partner.tok)) r.features l.noted_alike (compared_alike c t l.partner l.related) r.noted_alike;
-          same = r.same;
-        }
+        of_noted r (tree.Comparison l.tree by (position' l.partner.tok) r.tree) (l.features ++ compared c (position' l.partner.tok) ++ r.features)
+        (g.compare by l.derives (kind_of l.related kind) r.derives)
+        (λ i. tree.Comparison (l.alike i) by (positions t l.partner l.related i) (r.alike i))
+        (three ls (compared c (position t.tok)) rs l.features (compared c (position' l.partner.tok)) r.features l.noted_alike (compared_alike c t l.partner l.related) r.noted_alike)
     comparison (g.conjunct left n) us s =
         let l = conjunct left us s in
         rederived l (g.conjunct l.derives (not_compared_of l.same n))
@@ -332,15 +315,10 @@ module _ {A B A' B' C D : Type 0} (leaf : Tok → A) (position : Tok → B) (May
     conjunct (g.list_concatenation {ls = ls} {rs = rs} {operator = t} n left kind right) us s =
         let l = until (value left us s) in
         let r = conjunct right l.after l.same in
-        record {
-          tree = tree.ListConcatenation l.tree (position' l.partner.tok) r.tree;
-          features = l.features ++ noted features.ListConcatenationOperator (position' l.partner.tok) ++ r.features;
-          after = r.after;
-          derives = g.list_concatenation (no_word_of _ s n) l.derives (kind_of l.related kind) r.derives;
-          alike = λ i. tree.ListConcatenation (l.alike i) (positions t l.partner l.related i) (r.alike i);
-          noted_alike = noted_between features.ListConcatenationOperator t l.partner l.related ls rs l.features r.features l.noted_alike r.noted_alike;
-          same = r.same;
-        }
+        of_noted r (tree.ListConcatenation l.tree (position' l.partner.tok) r.tree) (l.features ++ noted features.ListConcatenationOperator (position' l.partner.tok) ++ r.features)
+        (g.list_concatenation (no_word_of _ s n) l.derives (kind_of l.related kind) r.derives)
+        (λ i. tree.ListConcatenation (l.alike i) (positions t l.partner l.related i) (r.alike i))
+        (noted_between features.ListConcatenationOperator t l.partner l.related ls rs l.features r.features l.noted_alike r.noted_alike)
     conjunct (g.concatenation {operator = t} n left kind right) us s =
         let l = until (value left us s) in
         let r = conjunct right l.after l.same in
@@ -354,15 +332,9 @@ module _ {A B A' B' C D : Type 0} (leaf : Tok → A) (position : Tok → B) (May
     pub condition : {d : ℕ} {e : Expr A B} {fs : List (Noted B)} {ts rest : Tokens} → Condition leaf position MayEnter d e fs ts rest → (us : Tokens) → Pairs Rel ts us → ExprOf (λ x n r. Condition leaf' position' MayEnter' d x n us r) e fs rest
     condition (g.condition {e = e} {fs = fs} {first = t} inside) us (cons {u = u} {us = us2} s ss) =
         let x = expression inside (u ∷ us2) (cons s ss) in
-        record {
-          tree = x.tree;
-          features = x.features ++ uncompared x.tree (position' u.tok);
-          after = x.after;
-          derives = g.condition x.derives;
-          alike = x.alike;
-          noted_alike = both fs (uncompared e (position t.tok)) x.features (uncompared x.tree (position' u.tok)) x.noted_alike (uncompared_alike e x.tree x.alike t u s);
-          same = x.same;
-        }
+        of_noted x x.tree (x.features ++ uncompared x.tree (position' u.tok))
+        (g.condition x.derives) x.alike
+        (both fs (uncompared e (position t.tok)) x.features (uncompared x.tree (position' u.tok)) x.noted_alike (uncompared_alike e x.tree x.alike t u s))
 
     pub braced : {d : ℕ} {e : Expr A B} {fs : List (Noted B)} {ts rest : Tokens} → Braced leaf position MayEnter d e fs ts rest → (us : Tokens) → Pairs Rel ts us → ExprOf (λ x n r. Braced leaf' position' MayEnter' d x n us r) e fs rest
     braced (g.braces kind inside kind2) us (cons s ss) =
@@ -374,55 +346,33 @@ module _ {A B A' B' C D : Type 0} (leaf : Tok → A) (position : Tok → B) (May
     conditional {t = t} (g.if_only {cs = cs} {bs = bs} first_part branch n) u w us s =
         let c = condition first_part us s in
         let b = braced branch c.after c.same in
-        record {
-          tree = tree.If c.tree b.tree;
-          features = c.features ++ b.features ++ noted features.IfWithoutElse (position' u.tok);
-          after = b.after;
-          derives = g.if_only c.derives b.derives (no_word_of _ b.same n);
-          alike = λ i. tree.If (c.alike i) (b.alike i);
-          noted_alike = three cs bs (noted features.IfWithoutElse (position t.tok)) c.features b.features (noted features.IfWithoutElse (position' u.tok)) c.noted_alike b.noted_alike (noted_then features.IfWithoutElse t u w [] [] refl);
-          same = b.same;
-        }
+        of_noted b (tree.If c.tree b.tree) (c.features ++ b.features ++ noted features.IfWithoutElse (position' u.tok))
+        (g.if_only c.derives b.derives (no_word_of _ b.same n)) (λ i. tree.If (c.alike i) (b.alike i))
+        (three cs bs (noted features.IfWithoutElse (position t.tok)) c.features b.features (noted features.IfWithoutElse (position' u.tok)) c.noted_alike b.noted_alike (noted_then features.IfWithoutElse t u w [] [] refl))
     conditional (g.if_else {o = other} {cs = cs} {bs = bs} {os = os} first_part branch otherwise last n) u w us s =
         let c = condition first_part us s in
         let b = until (braced branch c.after c.same) in
         let o = braced last b.after b.same in
-        record {
-          tree = tree.IfElse c.tree b.tree o.tree;
-          features = c.features ++ b.features ++ o.features;
-          after = o.after;
-          derives = g.if_else c.derives b.derives (word_of b.related otherwise) o.derives (closed_of other o.tree o.alike o.same n);
-          alike = λ i. tree.IfElse (c.alike i) (b.alike i) (o.alike i);
-          noted_alike = three cs bs os c.features b.features o.features c.noted_alike b.noted_alike o.noted_alike;
-          same = o.same;
-        }
+        of_noted o (tree.IfElse c.tree b.tree o.tree) (c.features ++ b.features ++ o.features)
+        (g.if_else c.derives b.derives (word_of b.related otherwise) o.derives (closed_of other o.tree o.alike o.same n))
+        (λ i. tree.IfElse (c.alike i) (b.alike i) (o.alike i))
+        (three cs bs os c.features b.features o.features c.noted_alike b.noted_alike o.noted_alike)
     conditional {d = d} (g.else_if {cs = cs} {bs = bs} {os = os} first_part branch otherwise again last) u w us s =
         let c = condition first_part us s in
         let b = until (braced branch c.after c.same) in
         let word = first b.same in
         let o = conditional last word.partner word.related word.more word.others in
-        record {
-          tree = tree.IfElse c.tree b.tree o.tree;
-          features = c.features ++ b.features ++ o.features;
-          after = o.after;
-          derives = g.else_if c.derives (subst (λ r. Braced leaf' position' MayEnter' d b.tree b.features c.after (b.partner ∷ r)) word.is b.derives) (word_of b.related otherwise) (word_of word.related again) o.derives;
-          alike = λ i. tree.IfElse (c.alike i) (b.alike i) (o.alike i);
-          noted_alike = three cs bs os c.features b.features o.features c.noted_alike b.noted_alike o.noted_alike;
-          same = o.same;
-        }
+        of_noted o (tree.IfElse c.tree b.tree o.tree) (c.features ++ b.features ++ o.features)
+        (g.else_if c.derives (subst (λ r. Braced leaf' position' MayEnter' d b.tree b.features c.after (b.partner ∷ r)) word.is b.derives) (word_of b.related otherwise) (word_of word.related again) o.derives)
+        (λ i. tree.IfElse (c.alike i) (b.alike i) (o.alike i))
+        (three cs bs os c.features b.features o.features c.noted_alike b.noted_alike o.noted_alike)
 
     pub value : {d : ℕ} {e : Expr A B} {fs : List (Noted B)} {ts rest : Tokens} → Value leaf position MayEnter d e fs ts rest → (us : Tokens) → Pairs Rel ts us → ExprOf (λ x n r. Value leaf' position' MayEnter' d x n us r) e fs rest
     value (g.not {fs = fs} {bang = t} kind v) us (cons {u = u} s ss) =
         let x = value v _ ss in
-        record {
-          tree = tree.Not x.tree;
-          features = noted features.NegationOperator (position' u.tok) ++ x.features;
-          after = x.after;
-          derives = g.not (kind_of s kind) x.derives;
-          alike = λ i. tree.Not (x.alike i);
-          noted_alike = noted_then features.NegationOperator t u s fs x.features x.noted_alike;
-          same = x.same;
-        }
+        of_noted x (tree.Not x.tree) (noted features.NegationOperator (position' u.tok) ++ x.features)
+        (g.not (kind_of s kind) x.derives) (λ i. tree.Not (x.alike i))
+        (noted_then features.NegationOperator t u s fs x.features x.noted_alike)
     value (g.literal {token = t} kind) us (cons {u = u} s ss) =
         of_tokens (tree.StringLiteral false (leaf' u.tok)) (g.literal (kind_of s kind)) (λ i. tree.StringLiteral false (leaves t u s i)) ss
     value (g.expanded {token = t} mark) us (cons m (cons {u = u} s ss)) =
@@ -451,29 +401,17 @@ module _ {A B A' B' C D : Type 0} (leaf : Tok → A) (position : Tok → B) (May
         (λ i. tree.Variable (leaves t u s i)) ss
     value (g.call {fs = fs} {name = t} kind n kind2 arguments) us (cons {u = u} s (cons s2 ss)) =
         let x = sequence arguments _ ss in
-        record {
-          tree = tree.Call (leaf' u.tok) x.tree;
-          features = x.features ++ called u.tok.lexeme (position' u.tok);
-          after = x.after;
-          derives = g.call (kind_of s kind) (no_word s n) (kind_of s2 kind2) x.derives;
-          alike = λ i. tree.Call (leaves t u s i) (x.alike i);
-          noted_alike = both fs (called t.tok.lexeme (position t.tok)) x.features (called u.tok.lexeme (position' u.tok)) x.noted_alike (called_alike t u s);
-          same = x.same;
-        }
+        of_noted x (tree.Call (leaf' u.tok) x.tree) (x.features ++ called u.tok.lexeme (position' u.tok))
+        (g.call (kind_of s kind) (no_word s n) (kind_of s2 kind2) x.derives) (λ i. tree.Call (leaves t u s i) (x.alike i))
+        (both fs (called t.tok.lexeme (position t.tok)) x.features (called u.tok.lexeme (position' u.tok)) x.noted_alike (called_alike t u s))
     value (g.group kind inside kind2) us (cons s ss) =
         let x = until (expression inside _ ss) in
         of_one (past x) (tree.Group x.tree) (g.group (kind_of s kind) x.derives (kind_of x.related kind2)) (λ i. tree.Group (x.alike i))
     value (g.list {fs = fs} {opener = t} kind elements) us (cons {u = u} s ss) =
         let x = sequence elements _ ss in
-        record {
-          tree = tree.ListOf (position' u.tok) x.tree;
-          features = noted features.ListLiteral (position' u.tok) ++ x.features;
-          after = x.after;
-          derives = g.list (kind_of s kind) x.derives;
-          alike = λ i. tree.ListOf (positions t u s i) (x.alike i);
-          noted_alike = noted_then features.ListLiteral t u s fs x.features x.noted_alike;
-          same = x.same;
-        }
+        of_noted x (tree.ListOf (position' u.tok) x.tree) (noted features.ListLiteral (position' u.tok) ++ x.features)
+        (g.list (kind_of s kind) x.derives) (λ i. tree.ListOf (positions t u s i) (x.alike i))
+        (noted_then features.ListLiteral t u s fs x.features x.noted_alike)
 
     pub sequence : {closing : TokenKind} {d : ℕ} {e : Exprs A B} {fs : List (Noted B)} {ts rest : Tokens} → Sequence leaf position MayEnter closing d e fs ts rest → (us : Tokens) → Pairs Rel ts us → ExprsOf (λ x n r. Sequence leaf' position' MayEnter' closing d x n us r) e fs rest
     sequence (g.none kind) us (cons s ss) = of_tokens tree.none (g.none (kind_of s kind)) refl ss

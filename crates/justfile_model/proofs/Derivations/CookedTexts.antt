@@ -75,8 +75,7 @@ module _ (expander : Expansions) where
   -- equal literals have equal texts
   pub same_texts : (ls : List (Literal (List ℕ))) (texts others : List (List ℕ)) → AreCookedTexts expander ls texts → AreCookedTexts expander ls others → texts ≡ others
   same_texts [] [] [] c d = refl
-  same_texts [] [] (x ∷ others) c d = absurd d
-  same_texts [] (x ∷ texts) others c d = absurd c
-  same_texts (l ∷ ls) [] others c d = absurd c
-  same_texts (l ∷ ls) (t ∷ texts) [] c d = absurd d
   same_texts (l ∷ ls) (t ∷ texts) (u ∷ others) c d = λ i. ok_inside t u (sym c.0 ∙ d.0) i ∷ same_texts ls texts others c.1 d.1 i
+  same_texts [] [] _ c d = absurd d
+  same_texts (l ∷ ls) (t ∷ texts) _ c d = absurd d
+  same_texts _ _ others c d = absurd c

@@ -1,6 +1,7 @@
 -- A file keeps its tree with an expander that has the same texts of its literals: with one that has more results, and with one that has
 -- results only for the texts that the file asks for.
 use Rattle.std.proofs.Common.{◌≡◌, ℕ, Bool, true, false, List, [], ◌∷◌, map, Option, Some, None, Result, Ok, Err, ◌||◌, cond, refl, sym, subst, ap, ◌∙◌, ⊎_elim}
+use Rattle.std.proofs.Math.Bool.{or-true}
 use Rattle.std.proofs.lemmas.Slice.Eq.{bytes_eq-Decides}
 use Rattle.std.specs.List.{AllByRecursion, list_any}
 use Rattle.std.specs.Str.{bytes_eq}
@@ -41,9 +42,8 @@ module _ (some all : Expansions) (within : Within some all) where
 
   texts_kept : (literals : List (Literal (List ℕ))) (texts : List (List ℕ)) → AreCookedTexts some literals texts → AreCookedTexts all literals texts
   texts_kept [] [] c = tt
-  texts_kept [] (text ∷ texts) c = absurd c
-  texts_kept (l ∷ literals) [] c = absurd c
   texts_kept (l ∷ literals) (text ∷ texts) c = (text_kept l text c.0, texts_kept literals texts c.1)
+  texts_kept _ _ c = absurd c
 
 -- ---- texts with an expander that has results only for the texts that are asked for
 
@@ -63,11 +63,7 @@ among_first : (text : List ℕ) (texts : List (List ℕ)) → among (text ∷ te
 among_first text texts = ap (λ b. b || list_any (bytes_eq text) texts) ((bytes_eq-Decides text text).1 refl)
 
 among_others : (text first : List ℕ) (texts : List (List ℕ)) → among texts text ≡ true → among (first ∷ texts) text ≡ true
-among_others text first texts h = by_first (bytes_eq text first)
-  where
-    by_first : (b : Bool) → (b || list_any (bytes_eq text) texts) ≡ true
-    by_first true = refl
-    by_first false = h
+among_others text first texts h = ap (λ b. bytes_eq text first || b) h ∙ or-true (bytes_eq text first)
 
 module _ (expander : Expansions) (texts : List (List ℕ)) where
   expanded_restricted : (found : Result (List ℕ) LiteralFault) (text : List ℕ) → among texts (asked_by found) ≡ true
@@ -78,19 +74,17 @@ module _ (expander : Expansions) (texts : List (List ℕ)) where
   text_restricted : (l : Literal (List ℕ)) (text : List ℕ) → among texts (asked_of l) ≡ true
       → cooked_text expander l ≡ Ok text → cooked_text (restricted_to texts expander) l ≡ Ok text
   text_restricted (Expanded lexeme) text m h = expanded_restricted (string_text lexeme) text m h
-  text_restricted (Plain lexeme) text m h = h
   text_restricted _ text m h = h
 
   texts_restricted : (literals : List (Literal (List ℕ))) (cooked : List (List ℕ))
       → ((text : List ℕ) → among (map asked_of literals) text ≡ true → among texts text ≡ true)
       → AreCookedTexts expander literals cooked → AreCookedTexts (restricted_to texts expander) literals cooked
   texts_restricted [] [] s c = tt
-  texts_restricted [] (text ∷ cooked) s c = absurd c
-  texts_restricted (l ∷ literals) [] s c = absurd c
   texts_restricted (l ∷ literals) (text ∷ cooked) s c = (
     text_restricted l text (s (asked_of l) (among_first (asked_of l) (map asked_of literals))) c.0,
     texts_restricted literals cooked (λ other m. s other (among_others other (asked_of l) (map asked_of literals) m)) c.1,
   )
+  texts_restricted _ _ s c = absurd c
 
 -- ---- what is seen of a tree whose literals have the same texts with two expanders
 

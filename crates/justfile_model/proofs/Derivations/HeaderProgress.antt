@@ -52,7 +52,7 @@ module _ {A B S : Type 0} (leaf : Tok → A) (position : Tok → B) (star : Tok 
   dependency_arguments_left (g.plain e others) = then (expression_left leaf position MayEnter e) (dependency_arguments_left others)
   dependency_arguments_left (g.starred kind e others) = later (then (value_left leaf position MayEnter e) (dependency_arguments_left others))
 
-  dependency_left : {d : Dependency A B S} {fs : List (Noted B)} {ts rest : Tokens} → DependencyOf leaf position star MayEnter d fs ts rest → LeftOf rest ts
+  pub dependency_left : {d : Dependency A B S} {fs : List (Noted B)} {ts rest : Tokens} → DependencyOf leaf position star MayEnter d fs ts rest → LeftOf rest ts
   dependency_left (g.bare p) = path_left leaf p
   dependency_left (g.plain kind p arguments) = later (then (path_left leaf p) (dependency_arguments_left arguments))
   dependency_left (g.starred kind kind2 p arguments) = later (later (then (path_left leaf p) (dependency_arguments_left arguments)))

@@ -1,6 +1,6 @@
 -- A tree that derives from tokens has tokens of the kinds that the grammar requires and, where the grammar determines it, with the required
 -- lexeme.
-use Rattle.std.proofs.Common.{◌≡◌, ℕ, Bool, List, [], ◌∷◌, ◌++◌, Option, Some, None, codes, subst}
+use Rattle.std.proofs.Common.{◌≡◌, ℕ, Bool, List, [], ◌∷◌, Option, Some, None, codes, subst}
 use Rattle.std.specs.List.{AllByRecursion}
 use Rattle.justfile_vocabulary.specs.declared.token_kind.TokenKind.{TokenKind}
 use Rattle.justfile_vocabulary.specs.declared.token_kind.TokenKind.TheVariants as kinds
@@ -17,6 +17,9 @@ use Rattle.justfile_model.specs.Grammars.AttributeLines as lines
 use Rattle.justfile_model.specs.Grammars.AttributeLines.{IsKey, ArgumentOf, Arguments, AttributeOf, Bracketed, AttributesEnd, AttributeLines}
 use Rattle.justfile_model.specs.Grammars.Expressions as g
 use Rattle.justfile_model.specs.Grammars.Expressions.{Tokens, IsKind, IsWord, operator_kind, Expression, Disjunct, Compared, Conjunct, Condition, Braced, Conditional, Value, Sequence, FormatParts}
+use Rattle.justfile_model.proofs.Derivations.AttributeProgress.{argument_left, attribute_left, attributes_end_left, bracketed_left}
+use Rattle.justfile_model.proofs.Derivations.ExpressionProgress.{LeftOf, braced_left, compared_left, condition_left, conjunct_left, disjunct_left, expression_left, later, next, value_left}
+use Rattle.justfile_model.proofs.Lists.AllParts.{both}
 
 -- ---- trees of such tokens
 
@@ -81,125 +84,93 @@ is_spelled kind word t from k h = record { kind_is = k; lexeme_is = from (subst 
 word_spelled : (word : List ℕ) (t : SignificantToken) → IsWord word t → IsSpelled kinds.Identifier word t.tok
 word_spelled word t w = record { kind_is = w.is_name; lexeme_is = w.spelled }
 
--- ---- what is derived
+-- the tokens that are left are spelled as well
+pub after : {rest tokens : Tokens} → LeftOf rest tokens → AllSpelled tokens → AllSpelled rest
+after next s = s.1
+after (later h) s = after h s.1
 
--- a tree is so, and the tokens after it are spelled
-pub record Kinds (Kinded : Type 0) (rest : Tokens) : Type 0 where
-  pub kinded : Kinded
-  pub after : AllSpelled rest
+-- ---- what is derived of such tokens
 
 module _ (MayEnter : ℕ → Option SignificantToken → Type 0) where
   mutual
-    pub expression_kinded : {condition : Bool} {depth : ℕ} {e : Expr Tok Tok} {fs : List (Noted Tok)} {tokens rest : Tokens}
-        → Expression itself itself MayEnter condition depth e fs tokens rest → AllSpelled tokens → Kinds (KindedExpr e) rest
-    expression_kinded (g.or o l k r) s =
-        let x = disjunct_kinded l s in
-        let y = expression_kinded r x.after.1 in
-        record { kinded = (x.kinded, y.kinded); after = y.after }
+    expression_kinded : {condition : Bool} {depth : ℕ} {e : Expr Tok Tok} {fs : List (Noted Tok)} {tokens rest : Tokens}
+        → Expression itself itself MayEnter condition depth e fs tokens rest → AllSpelled tokens → KindedExpr e
+    expression_kinded (g.or o l k r) s = (disjunct_kinded l s, expression_kinded r (after (disjunct_left itself itself MayEnter l) s).1)
     expression_kinded (g.disjunct o l n) s = disjunct_kinded l s
 
     disjunct_kinded : {condition : Bool} {depth : ℕ} {e : Expr Tok Tok} {fs : List (Noted Tok)} {tokens rest : Tokens}
-        → Disjunct itself itself MayEnter condition depth e fs tokens rest → AllSpelled tokens → Kinds (KindedExpr e) rest
-    disjunct_kinded (g.and l k r) s =
-        let x = compared_kinded l s in
-        let y = disjunct_kinded r x.after.1 in
-        record { kinded = (x.kinded, y.kinded); after = y.after }
+        → Disjunct itself itself MayEnter condition depth e fs tokens rest → AllSpelled tokens → KindedExpr e
+    disjunct_kinded (g.and l k r) s = (compared_kinded l s, disjunct_kinded r (after (compared_left itself itself MayEnter l) s).1)
     disjunct_kinded (g.comparison l n) s = compared_kinded l s
 
     compared_kinded : {condition : Bool} {depth : ℕ} {e : Expr Tok Tok} {fs : List (Noted Tok)} {tokens rest : Tokens}
-        → Compared itself itself MayEnter condition depth e fs tokens rest → AllSpelled tokens → Kinds (KindedExpr e) rest
+        → Compared itself itself MayEnter condition depth e fs tokens rest → AllSpelled tokens → KindedExpr e
     compared_kinded (g.compare {operator = operator} by l k r) s =
-        let x = conjunct_kinded l s in
-        let y = conjunct_kinded r x.after.1 in
-        record {
-          kinded = (x.kinded, is_spelled (operator_kind by) (operator_sign by) operator (compared_sign by operator.tok.lexeme) k x.after.0, y.kinded);
-          after = y.after;
-        }
+        let x = after (conjunct_left itself itself MayEnter l) s in
+        let sign = is_spelled (operator_kind by) (operator_sign by) operator (compared_sign by operator.tok.lexeme) k x.0 in
+        (conjunct_kinded l s, sign, conjunct_kinded r x.1)
     compared_kinded (g.conjunct l n) s = conjunct_kinded l s
 
     conjunct_kinded : {depth : ℕ} {e : Expr Tok Tok} {fs : List (Noted Tok)} {tokens rest : Tokens}
-        → Conjunct itself itself MayEnter depth e fs tokens rest → AllSpelled tokens → Kinds (KindedExpr e) rest
+        → Conjunct itself itself MayEnter depth e fs tokens rest → AllSpelled tokens → KindedExpr e
     conjunct_kinded (g.conditional w c) s = conditional_kinded c s.1
-    conjunct_kinded (g.root {operator = operator} k r) s =
-        let x = conjunct_kinded r s.1 in record { kinded = (is_spelled kinds.Slash (codes "/") operator (λ e. e) k s.0, x.kinded); after = x.after }
+    conjunct_kinded (g.root {operator = operator} k r) s = (is_spelled kinds.Slash (codes "/") operator (λ e. e) k s.0, conjunct_kinded r s.1)
     conjunct_kinded (g.join {operator = operator} n l k r) s =
-        let x = value_kinded l s in
-        let y = conjunct_kinded r x.after.1 in
-        record { kinded = (x.kinded, is_spelled kinds.Slash (codes "/") operator (λ e. e) k x.after.0, y.kinded); after = y.after }
+        let x = after (value_left itself itself MayEnter l) s in
+        (value_kinded l s, is_spelled kinds.Slash (codes "/") operator (λ e. e) k x.0, conjunct_kinded r x.1)
     conjunct_kinded (g.list_concatenation {operator = operator} n l k r) s =
-        let x = value_kinded l s in
-        let y = conjunct_kinded r x.after.1 in
-        record { kinded = (x.kinded, is_spelled kinds.PlusPlus (codes "++") operator (λ e. e) k x.after.0, y.kinded); after = y.after }
+        let x = after (value_left itself itself MayEnter l) s in
+        (value_kinded l s, is_spelled kinds.PlusPlus (codes "++") operator (λ e. e) k x.0, conjunct_kinded r x.1)
     conjunct_kinded (g.concatenation {operator = operator} n l k r) s =
-        let x = value_kinded l s in
-        let y = conjunct_kinded r x.after.1 in
-        record { kinded = (x.kinded, is_spelled kinds.Plus (codes "+") operator (λ e. e) k x.after.0, y.kinded); after = y.after }
+        let x = after (value_left itself itself MayEnter l) s in
+        (value_kinded l s, is_spelled kinds.Plus (codes "+") operator (λ e. e) k x.0, conjunct_kinded r x.1)
     conjunct_kinded (g.value n l j) s = value_kinded l s
 
     condition_kinded : {depth : ℕ} {e : Expr Tok Tok} {fs : List (Noted Tok)} {tokens rest : Tokens}
-        → Condition itself itself MayEnter depth e fs tokens rest → AllSpelled tokens → Kinds (KindedExpr e) rest
+        → Condition itself itself MayEnter depth e fs tokens rest → AllSpelled tokens → KindedExpr e
     condition_kinded (g.condition e) s = expression_kinded e s
 
     braced_kinded : {depth : ℕ} {e : Expr Tok Tok} {fs : List (Noted Tok)} {tokens rest : Tokens}
-        → Braced itself itself MayEnter depth e fs tokens rest → AllSpelled tokens → Kinds (KindedExpr e) rest
-    braced_kinded (g.braces o e c) s = let x = expression_kinded e s.1 in record { kinded = x.kinded; after = x.after.1 }
+        → Braced itself itself MayEnter depth e fs tokens rest → AllSpelled tokens → KindedExpr e
+    braced_kinded (g.braces o e c) s = expression_kinded e s.1
 
     conditional_kinded : {depth : ℕ} {word : SignificantToken} {e : Expr Tok Tok} {fs : List (Noted Tok)} {tokens rest : Tokens}
-        → Conditional itself itself MayEnter depth word e fs tokens rest → AllSpelled tokens → Kinds (KindedExpr e) rest
-    conditional_kinded (g.if_only c b n) s =
-        let x = condition_kinded c s in
-        let y = braced_kinded b x.after in
-        record { kinded = (x.kinded, y.kinded); after = y.after }
+        → Conditional itself itself MayEnter depth word e fs tokens rest → AllSpelled tokens → KindedExpr e
+    conditional_kinded (g.if_only c b n) s = (condition_kinded c s, braced_kinded b (after (condition_left itself itself MayEnter c) s))
     conditional_kinded (g.if_else c b w o n) s =
-        let x = condition_kinded c s in
-        let y = braced_kinded b x.after in
-        let z = braced_kinded o y.after.1 in
-        record { kinded = (x.kinded, y.kinded, z.kinded); after = z.after }
+        let x = after (condition_left itself itself MayEnter c) s in
+        (condition_kinded c s, braced_kinded b x, braced_kinded o (after (braced_left itself itself MayEnter b) x).1)
     conditional_kinded (g.else_if c b w v o) s =
-        let x = condition_kinded c s in
-        let y = braced_kinded b x.after in
-        let z = conditional_kinded o y.after.1.1 in
-        record { kinded = (x.kinded, y.kinded, z.kinded); after = z.after }
+        let x = after (condition_left itself itself MayEnter c) s in
+        (condition_kinded c s, braced_kinded b x, conditional_kinded o (after (braced_left itself itself MayEnter b) x).1.1)
 
-    pub value_kinded : {depth : ℕ} {e : Expr Tok Tok} {fs : List (Noted Tok)} {tokens rest : Tokens}
-        → Value itself itself MayEnter depth e fs tokens rest → AllSpelled tokens → Kinds (KindedExpr e) rest
+    value_kinded : {depth : ℕ} {e : Expr Tok Tok} {fs : List (Noted Tok)} {tokens rest : Tokens}
+        → Value itself itself MayEnter depth e fs tokens rest → AllSpelled tokens → KindedExpr e
     value_kinded (g.not k e) s = value_kinded e s.1
-    value_kinded (g.literal k) s = record { kinded = k; after = s.1 }
-    value_kinded (g.expanded m) s = record { kinded = m.is_string; after = s.1.1 }
-    value_kinded (g.format_literal m) s = record { kinded = m.is_string; after = s.1.1 }
+    value_kinded (g.literal k) s = k
+    value_kinded (g.expanded m) s = m.is_string
+    value_kinded (g.format_literal m) s = m.is_string
     value_kinded (g.format_string m e ps) s =
-        let x = expression_kinded e s.1.1 in
-        let y = parts_kinded ps x.after in
-        record { kinded = (m.is_string, x.kinded, y.kinded); after = y.after }
-    value_kinded (g.backtick k) s = record { kinded = k; after = s.1 }
-    value_kinded (g.assert {word = word} w o c k) s =
-        let x = condition_kinded c s.1.1 in record { kinded = (word_spelled (codes "assert") word w, x.kinded); after = x.after.1 }
+        (m.is_string, expression_kinded e s.1.1, parts_kinded ps (after (expression_left itself itself MayEnter e) s.1.1))
+    value_kinded (g.backtick k) s = k
+    value_kinded (g.assert {word = word} w o c k) s = (word_spelled (codes "assert") word w, condition_kinded c s.1.1)
     value_kinded (g.assert_message {word = word} w o c k m l) s =
-        let x = condition_kinded c s.1.1 in
-        let y = expression_kinded m x.after.1 in
-        record { kinded = (word_spelled (codes "assert") word w, x.kinded, y.kinded); after = y.after.1 }
-    value_kinded (g.variable k n u p) s = record { kinded = k; after = s.1 }
-    value_kinded (g.call k n o es) s = let x = sequence_kinded es s.1.1 in record { kinded = (k, x.kinded); after = x.after }
-    value_kinded (g.group o e k) s = let x = expression_kinded e s.1 in record { kinded = x.kinded; after = x.after.1 }
-    value_kinded (g.list {opener = opener} o es) s =
-        let x = sequence_kinded es s.1 in record { kinded = (is_spelled kinds.BracketL (codes "[") opener (λ e. e) o s.0, x.kinded); after = x.after }
+        (word_spelled (codes "assert") word w, condition_kinded c s.1.1, expression_kinded m (after (condition_left itself itself MayEnter c) s.1.1).1)
+    value_kinded (g.variable k n u p) s = k
+    value_kinded (g.call k n o es) s = (k, sequence_kinded es s.1.1)
+    value_kinded (g.group o e k) s = expression_kinded e s.1
+    value_kinded (g.list {opener = opener} o es) s = (is_spelled kinds.BracketL (codes "[") opener (λ e. e) o s.0, sequence_kinded es s.1)
 
-    pub sequence_kinded : {closing : TokenKind} {depth : ℕ} {es : Exprs Tok Tok} {fs : List (Noted Tok)} {tokens rest : Tokens}
-        → Sequence itself itself MayEnter closing depth es fs tokens rest → AllSpelled tokens → Kinds (KindedExprs es) rest
-    sequence_kinded (g.none k) s = record { kinded = tt; after = s.1 }
-    sequence_kinded (g.last n e k) s = let x = expression_kinded e s in record { kinded = (x.kinded, tt); after = x.after.1 }
-    sequence_kinded (g.more n e k es) s =
-        let x = expression_kinded e s in
-        let y = sequence_kinded es x.after.1 in
-        record { kinded = (x.kinded, y.kinded); after = y.after }
+    sequence_kinded : {closing : TokenKind} {depth : ℕ} {es : Exprs Tok Tok} {fs : List (Noted Tok)} {tokens rest : Tokens}
+        → Sequence itself itself MayEnter closing depth es fs tokens rest → AllSpelled tokens → KindedExprs es
+    sequence_kinded (g.none k) s = tt
+    sequence_kinded (g.last n e k) s = (expression_kinded e s, tt)
+    sequence_kinded (g.more n e k es) s = (expression_kinded e s, sequence_kinded es (after (expression_left itself itself MayEnter e) s).1)
 
     parts_kinded : {depth : ℕ} {ps : Parts Tok Tok} {fs : List (Noted Tok)} {tokens rest : Tokens}
-        → FormatParts itself itself MayEnter depth ps fs tokens rest → AllSpelled tokens → Kinds (KindedParts ps) rest
-    parts_kinded (g.end k) s = record { kinded = k; after = s.1 }
-    parts_kinded (g.next k e ps) s =
-        let x = expression_kinded e s.1 in
-        let y = parts_kinded ps x.after in
-        record { kinded = (k, x.kinded, y.kinded); after = y.after }
+        → FormatParts itself itself MayEnter depth ps fs tokens rest → AllSpelled tokens → KindedParts ps
+    parts_kinded (g.end k) s = k
+    parts_kinded (g.next k e ps) s = (k, expression_kinded e s.1, parts_kinded ps (after (expression_left itself itself MayEnter e) s.1))
 
   -- ---- attributes
 
@@ -208,42 +179,27 @@ module _ (MayEnter : ℕ → Option SignificantToken → Type 0) where
   key_kind t (u ∷ ts) h = h.0
 
   argument_kinded : {keys : Bool} {a : Argument Tok Tok} {fs : List (Noted Tok)} {tokens rest : Tokens} → ArgumentOf itself itself MayEnter keys a fs tokens rest
-      → AllSpelled tokens → Kinds (KindedArgument a) rest
+      → AllSpelled tokens → KindedArgument a
   argument_kinded (lines.positional n e) s = expression_kinded e s
-  argument_kinded (lines.bare {key = key} {rest = rest} k n) s = record { kinded = key_kind key rest k; after = s.1 }
-  argument_kinded (lines.keyed k q e) s = let x = expression_kinded e s.1.1 in record { kinded = (k, x.kinded); after = x.after }
+  argument_kinded (lines.bare {key = key} {rest = rest} k n) s = key_kind key rest k
+  argument_kinded (lines.keyed k q e) s = (k, expression_kinded e s.1.1)
 
   arguments_kinded : {keys : Bool} {arguments : List (Argument Tok Tok)} {fs : List (Noted Tok)} {tokens rest : Tokens}
-      → Arguments itself itself MayEnter keys arguments fs tokens rest → AllSpelled tokens
-      → Kinds (AllByRecursion KindedArgument arguments) rest
-  arguments_kinded (lines.none k) s = record { kinded = tt; after = s.1 }
-  arguments_kinded (lines.last a k) s = let x = argument_kinded a s in record { kinded = (x.kinded, tt); after = x.after.1 }
-  arguments_kinded (lines.more a k others) s =
-      let x = argument_kinded a s in
-      let y = arguments_kinded others x.after.1 in
-      record { kinded = (x.kinded, y.kinded); after = y.after }
+      → Arguments itself itself MayEnter keys arguments fs tokens rest → AllSpelled tokens → AllByRecursion KindedArgument arguments
+  arguments_kinded (lines.none k) s = tt
+  arguments_kinded (lines.last a k) s = (argument_kinded a s, tt)
+  arguments_kinded (lines.more a k others) s = (argument_kinded a s, arguments_kinded others (after (argument_left itself itself MayEnter a) s).1)
 
-  pub attribute_kinded : {w : WrittenAttribute Tok Tok} {fs : List (Noted Tok)} {tokens rest : Tokens} → AttributeOf itself itself MayEnter w fs tokens rest
-      → AllSpelled tokens → Kinds (KindedAttribute w) rest
-  attribute_kinded (lines.plain k n m) s = record { kinded = tt; after = s.1 }
-  attribute_kinded (lines.short k c e) s = let x = expression_kinded e s.1.1 in record { kinded = (x.kinded, tt); after = x.after }
+  attribute_kinded : {w : WrittenAttribute Tok Tok} {fs : List (Noted Tok)} {tokens rest : Tokens} → AttributeOf itself itself MayEnter w fs tokens rest
+      → AllSpelled tokens → KindedAttribute w
+  attribute_kinded (lines.plain k n m) s = tt
+  attribute_kinded (lines.short k c e) s = (expression_kinded e s.1.1, tt)
   attribute_kinded (lines.long k o arguments) s = arguments_kinded arguments s.1.1
 
   bracketed_kinded : {ws : List (WrittenAttribute Tok Tok)} {fs : List (Noted Tok)} {tokens rest : Tokens} → Bracketed itself itself MayEnter ws fs tokens rest
-      → AllSpelled tokens → Kinds (KindedWritten ws) rest
-  bracketed_kinded (lines.last w k) s = let x = attribute_kinded w s in record { kinded = (x.kinded, tt); after = x.after.1 }
-  bracketed_kinded (lines.more w k ws) s =
-      let x = attribute_kinded w s in
-      let y = bracketed_kinded ws x.after.1 in
-      record { kinded = (x.kinded, y.kinded); after = y.after }
-
-  end_spelled : {comment : Option (List ℕ)} {tokens rest : Tokens} → AttributesEnd itself itself MayEnter comment tokens rest → AllSpelled tokens → AllSpelled rest
-  end_spelled (lines.bare k) s = s.1
-  end_spelled (lines.commented c k) s = s.1.1
-
-  joined : (us vs : List (WrittenAttribute Tok Tok)) → KindedWritten us → KindedWritten vs → KindedWritten (us ++ vs)
-  joined [] vs h k = k
-  joined (u ∷ us) vs h k = (h.0, joined us vs h.1 k)
+      → AllSpelled tokens → KindedWritten ws
+  bracketed_kinded (lines.last w k) s = (attribute_kinded w s, tt)
+  bracketed_kinded (lines.more w k ws) s = (attribute_kinded w s, bracketed_kinded ws (after (attribute_left itself itself MayEnter w) s).1)
 
   last_kinded : (c : List ℕ) (ws : List (WrittenAttribute Tok Tok)) → KindedWritten ws → KindedWritten (at_last (commented_attribute c) ws)
   last_kinded c [] h = tt
@@ -254,10 +210,15 @@ module _ (MayEnter : ℕ → Option SignificantToken → Type 0) where
   commented_kinded None ws h = h
   commented_kinded (Some c) ws h = last_kinded c ws h
 
+  pub lines_spelled : {ws : List (WrittenAttribute Tok Tok)} {fs : List (Noted Tok)} {tokens rest : Tokens}
+      → AttributeLines itself itself MayEnter ws fs tokens rest → AllSpelled tokens → AllSpelled rest
+  lines_spelled (lines.none n) s = s
+  lines_spelled (lines.line k b e more) s =
+      lines_spelled more (after (attributes_end_left itself itself MayEnter e) (after (bracketed_left itself itself MayEnter b) s.1))
+
   pub lines_kinded : {ws : List (WrittenAttribute Tok Tok)} {fs : List (Noted Tok)} {tokens rest : Tokens}
-      → AttributeLines itself itself MayEnter ws fs tokens rest → AllSpelled tokens → Kinds (KindedWritten ws) rest
-  lines_kinded (lines.none n) s = record { kinded = tt; after = s }
-  lines_kinded (lines.line {ws = ws} {others = others} {comment = comment} k bracketed e more) s =
-      let x = bracketed_kinded bracketed s.1 in
-      let y = lines_kinded more (end_spelled e x.after) in
-      record { kinded = joined (commented_line comment ws) others (commented_kinded comment ws x.kinded) y.kinded; after = y.after }
+      → AttributeLines itself itself MayEnter ws fs tokens rest → AllSpelled tokens → KindedWritten ws
+  lines_kinded (lines.none n) s = tt
+  lines_kinded (lines.line {ws = ws} {others = others} {comment = comment} k b e more) s =
+      both KindedAttribute (commented_line comment ws) others (commented_kinded comment ws (bracketed_kinded b s.1))
+      (lines_kinded more (after (attributes_end_left itself itself MayEnter e) (after (bracketed_left itself itself MayEnter b) s.1)))

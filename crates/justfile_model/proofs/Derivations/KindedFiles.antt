@@ -11,12 +11,15 @@ use Rattle.justfile_model.specs.Grammars.Headers as heads
 use Rattle.justfile_model.specs.Grammars.Headers.{AllDependencies, Dependencies, DependencyArguments, DependencyOf, HeaderOf, NamedHeader, NamedParameter, ParameterOf, Parameters, PathOf, PathRest}
 use Rattle.justfile_model.specs.Grammars.ItemParts as parts
 use Rattle.justfile_model.specs.Grammars.ItemParts.{FilePath, Names, ValueOf}
-use Rattle.justfile_model.specs.Grammars.Settings.{SettingForm}
 use Rattle.justfile_model.specs.Lexing.SignificantTokens.{AllSpelled, SignificantToken}
 use Rattle.justfile_model.specs.Lexing.Tok.{Tok}
 use Rattle.justfile_model.specs.Trees.Tree as tree
 use Rattle.justfile_model.specs.Trees.Tree.{BodyLine, Construct, Content, Dependency, DependencyArgument, Fragment, Header, Parameter, Quoted, SettingValue, WrittenItem, WrittenTree, itself}
-use Rattle.justfile_model.proofs.Derivations.Kinded.{KindedWritten, expression_kinded, lines_kinded, sequence_kinded, value_kinded}
+use Rattle.justfile_model.proofs.Derivations.ExpressionProgress.{expression_left, value_left}
+use Rattle.justfile_model.proofs.Derivations.HeaderProgress.{dependency_left, path_left}
+use Rattle.justfile_model.proofs.Derivations.Kinded.{KindedWritten, after, lines_kinded, lines_spelled}
+use Rattle.justfile_model.proofs.Derivations.PartProgress as progress
+use Rattle.justfile_model.proofs.Derivations.PartProgress.{file_path_left}
 
 -- the attributes of an item are so
 abbrev pub KindedItem : WrittenItem Tok Tok ℕ Tok → Type 0
@@ -32,17 +35,6 @@ before_spelled : {comment : Option (List ℕ)} {ts rest : Tokens} → BeforeBody
 before_spelled (g.at_once kind kind2) s = s.1.1
 before_spelled (g.commented kind kind2 kind3) s = s.1.1.1
 
-rest_spelled : {names : List Tok} {ts rest : Tokens} → PathRest itself names ts rest → AllSpelled ts → AllSpelled rest
-rest_spelled (heads.last n) s = s
-rest_spelled (heads.next k l names) s = rest_spelled names s.1.1
-
-path_spelled : {names : List Tok} {ts rest : Tokens} → PathOf itself names ts rest → AllSpelled ts → AllSpelled rest
-path_spelled (heads.path k names) s = rest_spelled names s.1
-
-file_path_spelled : {path : Quoted Tok} {ts rest : Tokens} → FilePath itself path ts rest → AllSpelled ts → AllSpelled rest
-file_path_spelled (parts.plain k) s = s.1
-file_path_spelled (parts.expanded k l) s = s.1.1
-
 names_spelled : {names : List Tok} {ts rest : Tokens} → Names itself names ts rest → AllSpelled ts → AllSpelled rest
 names_spelled (parts.none k) s = s.1
 names_spelled (parts.last k l) s = s.1.1
@@ -54,7 +46,7 @@ module _ (MayEnter : ℕ → Option SignificantToken → Type 0) where
   named_spelled : {kind : ParameterKind} {export : Bool} {p : Parameter Tok Tok} {fs : List (Noted Tok)} {ts rest : Tokens}
       → NamedParameter itself itself MayEnter kind export p fs ts rest → AllSpelled ts → AllSpelled rest
   named_spelled (heads.required k n) s = s.1
-  named_spelled (heads.optional k l e) s = (value_kinded MayEnter e s.1.1).after
+  named_spelled (heads.optional k l e) s = after (value_left itself itself MayEnter e) s.1.1
 
   parameter_spelled : {kind : ParameterKind} {p : Parameter Tok Tok} {fs : List (Noted Tok)} {ts rest : Tokens}
       → ParameterOf itself itself MayEnter kind p fs ts rest → AllSpelled ts → AllSpelled rest
@@ -68,22 +60,10 @@ module _ (MayEnter : ℕ → Option SignificantToken → Type 0) where
   parameters_spelled (heads.plus k p l) s = (parameter_spelled p s.1).1
   parameters_spelled (heads.star k p l) s = (parameter_spelled p s.1).1
 
-  arguments_spelled : {arguments : List (DependencyArgument Tok Tok Tok)} {fs : List (Noted Tok)} {ts rest : Tokens}
-      → DependencyArguments itself itself itself MayEnter arguments fs ts rest → AllSpelled ts → AllSpelled rest
-  arguments_spelled (heads.none k) s = s.1
-  arguments_spelled (heads.plain e others) s = arguments_spelled others (expression_kinded MayEnter e s).after
-  arguments_spelled (heads.starred k e others) s = arguments_spelled others (value_kinded MayEnter e s.1).after
-
-  dependency_spelled : {d : Dependency Tok Tok Tok} {fs : List (Noted Tok)} {ts rest : Tokens} → DependencyOf itself itself itself MayEnter d fs ts rest
-      → AllSpelled ts → AllSpelled rest
-  dependency_spelled (heads.bare names) s = path_spelled names s
-  dependency_spelled (heads.plain k names arguments) s = arguments_spelled arguments (path_spelled names s.1)
-  dependency_spelled (heads.starred k l names arguments) s = arguments_spelled arguments (path_spelled names s.1.1)
-
   dependencies_spelled : {ds : List (Dependency Tok Tok Tok)} {fs : List (Noted Tok)} {ts rest : Tokens}
       → Dependencies itself itself itself MayEnter ds fs ts rest → AllSpelled ts → AllSpelled rest
   dependencies_spelled (heads.none n n2 n3) s = s
-  dependencies_spelled (heads.more d ds) s = dependencies_spelled ds (dependency_spelled d s)
+  dependencies_spelled (heads.more d ds) s = dependencies_spelled ds (after (dependency_left itself itself itself MayEnter d) s)
 
   all_spelled : {ds ss : List (Dependency Tok Tok Tok)} {fs : List (Noted Tok)} {ts rest : Tokens}
       → AllDependencies itself itself itself MayEnter ds ss fs ts rest → AllSpelled ts → AllSpelled rest
@@ -99,15 +79,6 @@ module _ (MayEnter : ℕ → Option SignificantToken → Type 0) where
   header_spelled (heads.quiet k h) s = named_header_spelled h s.1
   header_spelled (heads.loud h) s = named_header_spelled h s
 
-  value_spelled : {form : SettingForm} {value : SettingValue Tok Tok} {fs : List (Noted Tok)} {ts rest : Tokens} → ValueOf itself itself MayEnter form value fs ts rest
-      → AllSpelled ts → AllSpelled rest
-  value_spelled (parts.bare ends) s = s
-  value_spelled (parts.yes k is) s = s.1.1
-  value_spelled (parts.no k is) s = s.1.1
-  value_spelled (parts.expression k e) s = (expression_kinded MayEnter e s.1).after
-  value_spelled (parts.plain k e) s = (expression_kinded MayEnter e s.1).after
-  value_spelled (parts.interpreter k l es) s = (sequence_kinded MayEnter es s.1.1).after
-
   -- ---- what is after a construct
 
   line_spelled : {fragments : List (Fragment Tok Tok)} {fs : List (Noted Tok)} {ts rest : Tokens} → LineRest itself itself MayEnter fragments fs ts rest
@@ -115,7 +86,7 @@ module _ (MayEnter : ℕ → Option SignificantToken → Type 0) where
   line_spelled (g.line_ends kind) s = s.1
   line_spelled (g.body_ends kind) s = s
   line_spelled (g.text kind l) s = line_spelled l s.1
-  line_spelled (g.interpolation kind e kind2 l) s = line_spelled l (expression_kinded MayEnter e s.1).after.1
+  line_spelled (g.interpolation kind e kind2 l) s = line_spelled l (after (expression_left itself itself MayEnter e) s.1).1
 
   body_spelled : {lines : List (BodyLine Tok Tok ℕ)} {fs : List (Noted Tok)} {ts rest : Tokens} → BodyLines to_tokens MayEnter lines fs ts rest
       → AllSpelled ts → AllSpelled rest
@@ -125,18 +96,18 @@ module _ (MayEnter : ℕ → Option SignificantToken → Type 0) where
 
   on_line_spelled : {c : Content Tok Tok ℕ Tok} {fs : List (Noted Tok)} {ts rest : Tokens} → OnLine to_tokens MayEnter c fs ts rest → AllSpelled ts
       → AllSpelled rest
-  on_line_spelled (g.alias is kind kind2 p) s = path_spelled p s.1.1.1
-  on_line_spelled (g.assignment kind kind2 e) s = (expression_kinded MayEnter e s.1.1).after
-  on_line_spelled (g.eager is kind kind2 e) s = (expression_kinded MayEnter e s.1.1.1).after
-  on_line_spelled (g.export is kind kind2 e) s = (expression_kinded MayEnter e s.1.1.1).after
-  on_line_spelled (g.function kind kind2 ns kind3 e) s = (expression_kinded MayEnter e (names_spelled ns s.1.1).1).after
-  on_line_spelled (g.import is p) s = file_path_spelled p s.1
-  on_line_spelled (g.optional_import is kind p) s = file_path_spelled p s.1.1
+  on_line_spelled (g.alias is kind kind2 p) s = after (path_left itself p) s.1.1.1
+  on_line_spelled (g.assignment kind kind2 e) s = after (expression_left itself itself MayEnter e) s.1.1
+  on_line_spelled (g.eager is kind kind2 e) s = after (expression_left itself itself MayEnter e) s.1.1.1
+  on_line_spelled (g.export is kind kind2 e) s = after (expression_left itself itself MayEnter e) s.1.1.1
+  on_line_spelled (g.function kind kind2 ns kind3 e) s = after (expression_left itself itself MayEnter e) (names_spelled ns s.1.1).1
+  on_line_spelled (g.import is p) s = after (file_path_left itself p) s.1
+  on_line_spelled (g.optional_import is kind p) s = after (file_path_left itself p) s.1.1
   on_line_spelled (g.module_alone is kind ends) s = s.1.1
-  on_line_spelled (g.module_at is kind p) s = file_path_spelled p s.1.1
+  on_line_spelled (g.module_at is kind p) s = after (file_path_left itself p) s.1.1
   on_line_spelled (g.optional_module_alone is kind kind2 none) s = s.1.1.1
-  on_line_spelled (g.optional_module_at is kind kind2 p) s = file_path_spelled p s.1.1.1
-  on_line_spelled (g.setting is is2 form value) s = value_spelled value s.1.1
+  on_line_spelled (g.optional_module_at is kind kind2 p) s = after (file_path_left itself p) s.1.1.1
+  on_line_spelled (g.setting {name = name} is is2 form value) s = after (progress.value_left itself itself MayEnter {t = name} value) s.1
   on_line_spelled (g.unexport is kind ends) s = s.1.1
   on_line_spelled (g.header h) s = header_spelled h s
 
@@ -151,12 +122,8 @@ module _ (MayEnter : ℕ → Option SignificantToken → Type 0) where
     items_kinded (g.end kind) s = tt
     items_kinded (g.blank kind h) s = (tt, items_kinded h s.1)
     items_kinded (g.comment kind h) s = (tt, rest_kinded h s.1)
-    items_kinded (g.on_line a o h) s =
-        let x = lines_kinded MayEnter a s in
-        (x.kinded, rest_kinded h (on_line_spelled o x.after))
-    items_kinded (g.block a b h) s =
-        let x = lines_kinded MayEnter a s in
-        (x.kinded, (tt, items_kinded h (block_spelled b x.after)))
+    items_kinded (g.on_line a o h) s = (lines_kinded MayEnter a s, rest_kinded h (on_line_spelled o (lines_spelled MayEnter a s)))
+    items_kinded (g.block a b h) s = (lines_kinded MayEnter a s, (tt, items_kinded h (block_spelled b (lines_spelled MayEnter a s))))
 
     rest_kinded : {all : WrittenTree} {fs : List (ConstructFeatures Tok)} {ts : Tokens} → ItemRest to_tokens MayEnter all fs ts → AllSpelled ts → KindedItems all
     rest_kinded (g.trailing kind h) s = (tt, end_kinded h s.1)

@@ -203,9 +203,7 @@ module _ {A B D E : Type 0} (f : A → D) (g : B → E) where
   attribute_over (tree.Texts kind texts) = flat_mapped quoted_literals quoted_literals (over_quoted f g) (over_literal f) quoted_over texts
   attribute_over (tree.Env key value) = two (expr_literals key) (expr_literals value) _ _ (expr_over key) (expr_over value)
   attribute_over (tree.Signals signals) = refl
-  attribute_over (tree.Cache extra inputs outputs) =
-      two (optional_literals expr_literals extra ++ optional_literals expr_literals inputs) (optional_literals expr_literals outputs) _ _
-      (two (optional_literals expr_literals extra) (optional_literals expr_literals inputs) _ _ (optional_over extra) (optional_over inputs)) (optional_over outputs)
+  attribute_over (tree.Cache extra inputs outputs) = simp (map-append, optional_over extra, optional_over inputs, optional_over outputs)
   attribute_over (tree.Arg rules) = rules_over rules
 
   entries_over : (es : List (Entry A B)) → entries_literals (map (over_entry f g) es) ≡ map (over_literal f) (entries_literals es)

@@ -1,8 +1,8 @@
 -- Tokens that derive under a limit derive under each greater one, and there is a least limit. Tokens that derive under another limit, but
 -- not under this one, are too deep.
-use Rattle.std.proofs.Common.{◌≡◌, ◌⊎◌, ℕ, zero, suc, ◌<◌, ◌≤◌, Bool, true, false, IsTrue, List, Option, Result, Ok, Err, refl, sym, ap, subst, ◌∙◌, inl, inr, arith}
+use Rattle.std.proofs.Common.{◌≡◌, ◌⊎◌, ℕ, zero, suc, ◌<◌, ◌≤◌, Bool, true, false, IsTrue, List, Option, Result, Ok, Err, refl, sym, ap, subst, ◌∙◌, inl, inr, ⊎_elim, arith}
 use Rattle.std.specs.Prelude.{is_ok}
-use Rattle.std.proofs.lemmas.Bool.{cases_order}
+use Rattle.std.proofs.lemmas.Bool.{cases_lt}
 use Rattle.justfile_model.specs.Grammars.Conditions.{Conditions, with_limit}
 use Rattle.justfile_model.specs.Grammars.Expressions.{PastLimitAt}
 use Rattle.justfile_model.specs.Grammars.Features.{ConstructFeatures, Noted}
@@ -32,25 +32,13 @@ abbrev NoneBelow : (ℕ → Bool) → ℕ → Type 0
 NoneBelow test bound = (n : ℕ) → n < bound → test n ≡ false
 
 module _ (test : ℕ → Bool) where
-  not_both : (b : Bool) → b ≡ true → b ≡ false → ⊥
-  not_both b h k = cc
-
   -- none below passes, so none is less
   is_least : (bound : ℕ) → NoneBelow test bound → (n : ℕ) → test n ≡ true → bound ≤ n
-  is_least bound none n h = by_cases (cases_order n bound)
-    where
-      by_cases : (n ≡ bound) ⊎ ((n < bound) ⊎ (bound < n)) → bound ≤ n
-      by_cases (inl same) = omega (arith, same)
-      by_cases (inr (inl below)) = absurd (not_both (test n) h (none n below))
-      by_cases (inr (inr above)) = omega (arith, above)
+  is_least bound none n h = ⊎_elim (λ below. cc (h, none n below)) (λ above. above) (cases_lt n bound)
 
   none_further : (bound : ℕ) → NoneBelow test bound → test bound ≡ false → NoneBelow test (suc bound)
-  none_further bound none fails n below = by_cases (cases_order n bound)
-    where
-      by_cases : (n ≡ bound) ⊎ ((n < bound) ⊎ (bound < n)) → test n ≡ false
-      by_cases (inl same) = ap test same ∙ fails
-      by_cases (inr (inl less)) = none n less
-      by_cases (inr (inr more)) = absurd (omega (arith, below, more))
+  none_further bound none fails n below =
+      ⊎_elim (none n) (λ above. let same : n ≡ bound = omega (arith, below, above) in ap test same ∙ fails) (cases_lt n bound)
 
   one_more : (bound : ℕ) → Least test bound → Least test (suc bound)
   one_more bound h = record { number = h.number; within = let w = h.within in omega (arith, w); passes = h.passes; least = h.least }
@@ -68,11 +56,7 @@ module _ (test : ℕ → Bool) where
       further (inr none) = here_or_none bound none (test bound) refl
 
   least_of : (n : ℕ) → test n ≡ true → Least test (suc n)
-  least_of n h = by (found_or_none (suc n))
-    where
-      by : Least test (suc n) ⊎ NoneBelow test (suc n) → Least test (suc n)
-      by (inl found) = found
-      by (inr none) = absurd (not_both (test n) h (none n (omega arith)))
+  least_of n h = ⊎_elim (λ found. found) (λ none. cc (h, none n (omega arith))) (found_or_none (suc n))
 
 -- ---- limits
 

@@ -1,19 +1,16 @@
 -- Levels close before a blank line exactly if the longest run of white bytes ends in a line feed, and a byte follows it.
-use Rattle.std.proofs.Common.{zero, suc, ◌≡◌, ◌≢◌, ℕ, ◌<◌, ◌≤◌, Bool, true, false, cond, eqb, ltb, List, [], ◌∷◌, ◌++◌, ◌⊎◌, inl, inr, length, take, drop, get_or, Option, Some, None, Ok, Err, refl, sym, ap, subst, ◌∙◌, arith}
+use Rattle.std.proofs.Common.{zero, suc, ◌≡◌, ◌≢◌, ℕ, ◌<◌, ◌≤◌, Bool, true, false, cond, eqb, List, [], ◌∷◌, ◌++◌, ◌⊎◌, inl, inr, length, take, drop, get_or, Option, Some, None, Ok, Err, refl, sym, ap, subst, ◌∙◌, arith}
 use Rattle.std.specs.Prelude.{◌↔◌, ◌||◌, ◌&&◌, is_some, not}
 use Rattle.std.specs.List.{AllPass}
 use Rattle.std.proofs.lemmas.Bool.Decides.{nat_tests}
 use Rattle.std.proofs.lemmas.List.Elements.{All-cons, All-head, All-nil, All-push, All-tail}
 use Rattle.std.proofs.lemmas.List.{append_assoc, drop_at, length-append, length-drop, take_at}
-use Rattle.justfile_vocabulary.specs.declared.byte_class.ByteClass.{ByteClass}
-use Rattle.justfile_vocabulary.specs.declared.byte_class.ByteClass.TheVariants as classes
-use Rattle.std.specs.Char.{is_ascii_alphabetic, is_ascii_digit}
-use Rattle.justfile_vocabulary.specs.ByteClass.{begins_fixed, class_of}
+use Rattle.justfile_vocabulary.specs.ByteClass.{class_of}
 use Rattle.justfile_model.specs.Lexing.BlankLines.{BeginsWithBlankLine, BeginsWithWhiteLines, IsAtLineStart, LevelsClose, is_blank_or_line_end}
 use Rattle.justfile_vocabulary.specs.Indentation.{is_space_or_tab}
 use Rattle.justfile_vocabulary.specs.declared.token_kind.TokenKind.TheVariants as kinds
 use Rattle.justfile_vocabulary.specs.declared.token_kind.TokenKind.{TokenKind}
-use Rattle.justfile_model.specs.Lexing.Bytes.{blank, blank_len, closes_levels, is_blank, is_line_end, line_feed, white}
+use Rattle.justfile_model.specs.Lexing.Bytes.{blank_len, closes_levels, is_blank, is_line_end, line_feed, white}
 use Rattle.justfile_model.specs.declared.raw_text.RawText.TheVariants as raw_texts
 use Rattle.justfile_model.specs.Lexing.LiteralText.{raw_len}
 use Rattle.justfile_model.specs.Lexing.Modes.{Mode, mode, tail_of, is_empty, nested}
@@ -21,43 +18,7 @@ use Rattle.justfile_model.specs.Lexing.Next.{NextToken, at_line_start, blanks_or
 use Rattle.justfile_model.specs.Lexing.Lexed.{Begins, end_of, next_of}
 use Rattle.justfile_model.specs.Lexing.Tok.{Tok}
 use Rattle.justfile_model.proofs.Lexing.AnswerLaws.{at, next_at}
-use Rattle.justfile_model.proofs.Lexing.CutLemmas.{eq_from, is_line_feed}
-
--- blanks and white bytes are classes
-record IsClassed (b : ℕ) (k : ByteClass) : Type 0 where
-  is_blank : is_space_or_tab b ≡ blank k
-  is_white' : is_blank_or_line_end b ≡ white k
-
-class_if : (b : ℕ) (t : Bool) {x y : ByteClass} → (t ≡ true → IsClassed b x) → (t ≡ false → IsClassed b y) → IsClassed b (cond t x y)
-class_if b true f g = f refl
-class_if b false f g = g refl
-
-white_blank : (b : ℕ) → (eqb b 32 || eqb b 9) ≡ true → is_blank_or_line_end b ≡ true
-white_blank b h = grind (arith, nat_tests)
-
-white_feed : (b : ℕ) → eqb b 10 ≡ true → is_blank_or_line_end b ≡ true
-white_feed b h = grind (arith, nat_tests)
-
-white_return : (b : ℕ) → eqb b 13 ≡ true → is_blank_or_line_end b ≡ true
-white_return b h = grind (arith, nat_tests)
-
-not_white : (b : ℕ) → (eqb b 32 || eqb b 9) ≡ false → eqb b 10 ≡ false → eqb b 13 ≡ false → is_blank_or_line_end b ≡ false
-not_white b h f g = grind (arith, nat_tests)
-
-classed : (b : ℕ) → IsClassed b (class_of b)
-unfolding class_of
-classed b =
-    class_if b (eqb b 32 || eqb b 9) {x = classes.Blank} (λ h. record { is_blank = h; is_white' = white_blank b h }) (λ none.
-    class_if b (eqb b 10) {x = classes.LineFeed} (λ h. record { is_blank = none; is_white' = white_feed b h }) (λ no_feed.
-    class_if b (eqb b 13) {x = classes.CarriageReturn} (λ h. record { is_blank = none; is_white' = white_return b h }) (λ no_return.
-    let white : is_blank_or_line_end b ≡ false = not_white b none no_feed no_return in
-    class_if b (is_ascii_alphabetic b || eqb b 95) {x = classes.IdentifierStart} (λ _. record { is_blank = none; is_white' = white }) (λ _.
-    class_if b (is_ascii_digit b || eqb b 45) {x = classes.IdentifierContinue} (λ _. record { is_blank = none; is_white' = white }) (λ _.
-    class_if b (eqb b 39 || eqb b 34 || eqb b 96) {x = classes.Quote} (λ _. record { is_blank = none; is_white' = white }) (λ _.
-    class_if b (eqb b 40 || eqb b 91 || eqb b 123) {x = classes.Opener} (λ _. record { is_blank = none; is_white' = white }) (λ _.
-    class_if b (eqb b 41 || eqb b 93 || eqb b 125) {x = classes.Closer} (λ _. record { is_blank = none; is_white' = white }) (λ _.
-    class_if b (begins_fixed b) {x = classes.Fixed} (λ _. record { is_blank = none; is_white' = white }) (λ _.
-    class_if b (ltb 193 b && ltb b 245) {x = classes.Lead} {y = classes.Other} (λ _. record { is_blank = none; is_white' = white }) (λ _. record { is_blank = none; is_white' = white }))))))))))
+use Rattle.justfile_model.proofs.Lexing.CutLemmas.{eq_from, is_class, is_line_feed}
 
 -- ---- the longest run of white bytes
 
@@ -82,14 +43,14 @@ white_lines last (b ∷ bs) h = by (white (class_of b)) refl h (white_lines (lin
     pushed w (inr l) = record { run = b ∷ l.run; next = l.next; follows = l.follows; are = ap (λ bs. b ∷ bs) l.are; is_run = All-cons (λ b. is_blank_or_line_end b ≡ true) b l.run w l.is_run; run_ends = l.run_ends }
 
     by : (w : Bool) → white (class_of b) ≡ w → cond w (closes_levels (line_feed (class_of b)) bs) last ≡ true → (closes_levels (line_feed (class_of b)) bs ≡ true → StopsAfterFeed (line_feed (class_of b)) bs ⊎ BeginsWithWhiteLines bs) → StopsAfterFeed last (b ∷ bs) ⊎ BeginsWithWhiteLines (b ∷ bs)
-    by true w h more = inr (pushed ((classed b).is_white' ∙ w) (more h))
-    by false w h more = inl (record { feed = h; next = b; follows = bs; are = refl; run_ends = (classed b).is_white' ∙ w })
+    by true w h more = inr (pushed ((is_class b).is_white ∙ w) (more h))
+    by false w h more = inl (record { feed = h; next = b; follows = bs; are = refl; run_ends = (is_class b).is_white ∙ w })
 
 closes_by : (run : List ℕ) → AllPass is_blank_or_line_end run → (next : ℕ) (follows : List ℕ) → is_blank_or_line_end next ≡ false → (last : Bool) → closes_levels last (run ++ (10 ∷ (next ∷ follows))) ≡ true
 unfolding closes_levels class_of
-closes_by [] all next follows stops last = let no_white : white (class_of next) ≡ false = sym (classed next).is_white' ∙ stops in rw no_white refl
+closes_by [] all next follows stops last = let no_white : white (class_of next) ≡ false = sym (is_class next).is_white ∙ stops in rw no_white refl
 closes_by (b ∷ run) all next follows stops last =
-    let is_white' : white (class_of b) ≡ true = sym (classed b).is_white' ∙ All-head (λ b. is_blank_or_line_end b ≡ true) b run all in
+    let is_white' : white (class_of b) ≡ true = sym (is_class b).is_white ∙ All-head (λ b. is_blank_or_line_end b ≡ true) b run all in
     rw is_white' (closes_by run (All-tail (λ b. is_blank_or_line_end b ≡ true) b run all) next follows stops (line_feed (class_of b)))
 
 closes_law : (text : List ℕ) → (closes_levels false text ≡ true) ↔ BeginsWithWhiteLines text
@@ -104,7 +65,7 @@ closes_law text = (λ h. by (white_lines false text h), λ l. ap (closes_levels 
 -- how many blanks come first
 line_end_first : (follows : List ℕ) → is_line_end follows ≡ true → blank_len follows ≡ 0
 line_end_first [] h = refl
-line_end_first (b ∷ bs) h = let other : is_blank b ≡ false = sym (classed b).is_blank ∙ no_blank b (get_or bs 0 0) h in rw other refl
+line_end_first (b ∷ bs) h = let other : is_blank b ≡ false = sym (is_class b).is_blank ∙ no_blank b (get_or bs 0 0) h in rw other refl
   where
     no_blank : (b c : ℕ) → (eqb b 10 || eqb b 13 && eqb c 10) ≡ true → is_space_or_tab b ≡ false
     no_blank b c h = grind (arith, nat_tests)
@@ -112,7 +73,7 @@ line_end_first (b ∷ bs) h = let other : is_blank b ≡ false = sym (classed b)
 blanks_first : (blanks follows : List ℕ) → AllPass is_space_or_tab blanks → blank_len follows ≡ 0 → blank_len (blanks ++ follows) ≡ length blanks
 blanks_first [] follows all none = none
 blanks_first (b ∷ bs) follows all none =
-    let first : is_blank b ≡ true = sym (classed b).is_blank ∙ All-head (λ b. is_space_or_tab b ≡ true) b bs all in
+    let first : is_blank b ≡ true = sym (is_class b).is_blank ∙ All-head (λ b. is_space_or_tab b ≡ true) b bs all in
     rw first (omega (arith, blanks_first bs follows (All-tail (λ b. is_space_or_tab b ≡ true) b bs all) none))
 
 -- at a line end no other token is a dedent

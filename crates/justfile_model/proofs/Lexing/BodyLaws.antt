@@ -1,7 +1,9 @@
 -- A position is in a body exactly if there is an indent after a colon, and no dedent since that colon.
-use Rattle.std.proofs.Common.{◌≡◌, ◌≢◌, Bool, true, false, List, [], ◌∷◌, ◌++◌, refl, sym, ap, subst, ◌∙◌, ◌⊎◌, inl, inr}
+use Rattle.std.proofs.Common.{◌≡◌, ◌≢◌, Bool, true, List, [], ◌∷◌, ◌++◌, refl, sym, ap, subst, ◌∙◌, ◌⊎◌, inl, inr}
 use Rattle.std.specs.Prelude.{◌↔◌, ◌||◌, IsTrue, reverse}
 use Rattle.std.specs.List.{AllByRecursion}
+use Rattle.std.proofs.Math.Bool.{or-true}
+use Rattle.std.proofs.lemmas.Bool.{or_cases}
 use Rattle.std.proofs.lemmas.List.{append_assoc, reverse-append, reverse-reverse}
 use Rattle.std.proofs.lemmas.List.Elements.{All-nil, All-push, recursion_from_All}
 use Rattle.justfile_vocabulary.specs.declared.token_kind.TokenKind.{TokenKind}
@@ -21,35 +23,29 @@ colon_step kinds.Dedent t m n c = absurd (n refl)
 colon_step kinds.Colon t m n c = refl
 colon_step k t m n c = c
 
-colon_stays : (ts e : List Tok) → AllByRecursion NotDedent ts → (mode e).colon ≡ true → (mode (reverse ts ++ e)).colon ≡ true
-colon_stays [] e n c = c
-colon_stays (t ∷ ts) e n c = subst (λ e. (mode e).colon ≡ true) (sym (reverse_more t ts e)) (colon_stays ts (t ∷ e) n.1 (colon_step t.kind t (mode e) n.0 c))
-
 body_step : (k : TokenKind) (t : Tok) (m : Mode) → k ≢ kinds.Dedent → m.in_body ≡ true → (mode_after k t m).in_body ≡ true
 body_step kinds.Dedent t m n c = absurd (n refl)
 body_step kinds.Indent t m n c = ap (λ b. b || m.colon) c
 body_step k t m n c = c
 
-body_stays : (ts e : List Tok) → AllByRecursion NotDedent ts → (mode e).in_body ≡ true → (mode (reverse ts ++ e)).in_body ≡ true
-body_stays [] e n c = c
-body_stays (t ∷ ts) e n c = subst (λ e. (mode e).in_body ≡ true) (sym (reverse_more t ts e)) (body_stays ts (t ∷ e) n.1 (body_step t.kind t (mode e) n.0 c))
+-- what stays at any token but a dedent
+stays : (test : Mode → Bool) → ((k : TokenKind) (t : Tok) (m : Mode) → k ≢ kinds.Dedent → test m ≡ true → test (mode_after k t m) ≡ true)
+    → (ts e : List Tok) → AllByRecursion NotDedent ts → test (mode e) ≡ true → test (mode (reverse ts ++ e)) ≡ true
+stays test step [] e n c = c
+stays test step (t ∷ ts) e n c = subst (λ e. test (mode e) ≡ true) (sym (reverse_more t ts e)) (stays test step ts (t ∷ e) n.1 (step t.kind t (mode e) n.0 c))
 
 after_colon : (ts : List Tok) → IsAfterColon ts → (mode (reverse ts)).colon ≡ true
 after_colon ts h =
     let same : reverse ts ≡ reverse h.since ++ (h.colon ∷ reverse h.before) = ap reverse h.are ∙ reverse_at h.before h.colon h.since in
     let here : (mode (h.colon ∷ reverse h.before)).colon ≡ true = subst (λ k. (mode_after k h.colon (mode (reverse h.before))).colon ≡ true) (sym h.is_colon) refl in
-    subst (λ e. (mode e).colon ≡ true) (sym same) (colon_stays h.since (h.colon ∷ reverse h.before) (recursion_from_All NotDedent h.since h.no_dedent) here)
-
-or_true : (a b : Bool) → b ≡ true → (a || b) ≡ true
-or_true true b h = refl
-or_true false b h = h
+    subst (λ e. (mode e).colon ≡ true) (sym same) (stays (λ m. m.colon) colon_step h.since (h.colon ∷ reverse h.before) (recursion_from_All NotDedent h.since h.no_dedent) here)
 
 in_body : (ts : List Tok) → IsInBody ts → (mode (reverse ts)).in_body ≡ true
 in_body ts h =
     let m : Mode = mode (reverse h.before) in
     let same : reverse ts ≡ reverse h.since ++ (h.indent ∷ reverse h.before) = ap reverse h.are ∙ reverse_at h.before h.indent h.since in
-    let here : (mode (h.indent ∷ reverse h.before)).in_body ≡ true = subst (λ k. (mode_after k h.indent m).in_body ≡ true) (sym h.is_indent) (or_true m.in_body m.colon (after_colon h.before h.after_colon)) in
-    subst (λ e. (mode e).in_body ≡ true) (sym same) (body_stays h.since (h.indent ∷ reverse h.before) (recursion_from_All NotDedent h.since h.no_dedent) here)
+    let here : (mode (h.indent ∷ reverse h.before)).in_body ≡ true = subst (λ k. (mode_after k h.indent m).in_body ≡ true) (sym h.is_indent) (ap (λ b. m.in_body || b) (after_colon h.before h.after_colon) ∙ or-true m.in_body) in
+    subst (λ e. (mode e).in_body ≡ true) (sym same) (stays (λ m. m.in_body) body_step h.since (h.indent ∷ reverse h.before) (recursion_from_All NotDedent h.since h.no_dedent) here)
 
 -- ---- from the mode to the tokens
 
@@ -76,10 +72,6 @@ colon_found (t ∷ e) c = subst IsAfterColon (sym (reverse-append (t ∷ []) e))
     by kinds.Dedent is c more = cc
     by kinds.Colon is c more = colon_here (reverse e) t is
     by _ is c more = colon_more (reverse e) t (λ n. cc) (more c)
-
-or_cases : (a b : Bool) → (a || b) ≡ true → (a ≡ true) ⊎ (b ≡ true)
-or_cases true b h = inl refl
-or_cases false b h = inr h
 
 body_found : (e : List Tok) → (mode e).in_body ≡ true → IsInBody (reverse e)
 body_found [] c = cc

@@ -81,10 +81,7 @@ NoFeeds t = AllByRecursion (λ b. eqb b 10 ≡ false) t
 
 -- the bytes of a comment have no line feed
 step_back : (a b c : Bool) (n m : ℕ) → suc m ≤ cond (a || (b && c)) 0 (suc n) → (a ≡ false) × (m ≤ n)
-step_back true b c n m h = absurd (omega arith)
-step_back false true true n m h = absurd (omega arith)
-step_back false true false n m h = (refl, omega arith)
-step_back false false c n m h = (refl, omega arith)
+step_back a b c n m h = (grind (arith, nat_tests), grind (arith, nat_tests))
 
 feed_back : (b : ℕ) (bs rest : List ℕ) → suc (length bs) ≤ raw_len raw_texts.Comment (b ∷ bs ++ rest)
     → (eqb b 10 ≡ false) × (length bs ≤ raw_len raw_texts.Comment (bs ++ rest))

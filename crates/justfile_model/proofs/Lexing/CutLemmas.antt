@@ -5,7 +5,7 @@ use Rattle.std.proofs.lemmas.List.{get_or_past}
 use Rattle.std.specs.List.{prefix_len}
 use Rattle.std.specs.Str.{IsUtf8, IsCharBoundary}
 use Rattle.std.specs.Char.{len_utf8, is_ascii_alphabetic, is_ascii_digit}
-use Rattle.std.proofs.lemmas.Bool.{and_parts, cases_lt}
+use Rattle.std.proofs.lemmas.Bool.{cases_lt}
 use Rattle.std.proofs.lemmas.Bool.Decides.{nat_tests}
 use Rattle.std.proofs.lemmas.List.Sums.{prefix_len_passes, prefix_len-le-length}
 use Rattle.std.proofs.lemmas.Str.{IsCharBoundary-start, IsCharBoundary-end, IsCharBoundary-before_ascii, IsCharBoundary-after_ascii, IsCharBoundary-past_char, encodes-chars}
@@ -13,12 +13,14 @@ use Rattle.std.proofs.Math.Utf8.{encodes}
 use Rattle.justfile_vocabulary.specs.declared.byte_class.ByteClass.{ByteClass}
 use Rattle.justfile_vocabulary.specs.declared.byte_class.ByteClass.TheVariants.{Blank, LineFeed, CarriageReturn, IdentifierStart, IdentifierContinue, Quote, Opener, Closer, Fixed, Lead, Other}
 use Rattle.justfile_token.specs.declared.string_kind.StringDelimiter.{StringDelimiter}
-use Rattle.justfile_token.specs.declared.string_kind.StringDelimiter.TheVariants.{Backtick, QuoteDouble, QuoteSingle}
+use Rattle.justfile_token.specs.declared.string_kind.StringDelimiter.TheVariants.{Backtick}
 use Rattle.justfile_token.specs.declared.string_kind.StringKind.{StringKind}
 use Rattle.justfile_model.specs.declared.raw_text.RawText.{RawText}
 use Rattle.justfile_model.specs.declared.raw_text.RawText.TheVariants.{Comment, Body, Literal}
 use Rattle.justfile_vocabulary.specs.ByteClass.{begins_fixed, class_of}
-use Rattle.justfile_model.specs.Lexing.Bytes.{in_word, line_feed, is_blank, is_name_byte, is_line_end, is_interpolation_start, is_interpolation_escape, first_char}
+use Rattle.justfile_model.specs.Lexing.BlankLines.{is_blank_or_line_end}
+use Rattle.justfile_vocabulary.specs.Indentation.{is_space_or_tab}
+use Rattle.justfile_model.specs.Lexing.Bytes.{blank, in_word, line_feed, white, is_blank, is_name_byte, is_line_end, is_interpolation_start, is_interpolation_escape, first_char}
 use Rattle.justfile_token.specs.StringKind.{delimiter_len, kind_of, quote_of}
 use Rattle.justfile_model.specs.Lexing.LiteralText.{pieces_len, is_delimiter, hides, ends, raw_len}
 
@@ -28,15 +30,16 @@ ClassFact b Lead = Unit {0}
 ClassFact b Other = Unit {0}
 ClassFact b _ = (0 < b) × (b < 128)
 
-record IsClass (b : ℕ) (k : ByteClass) : Type 0 where
-  fact : ClassFact b k
+-- what holds of a byte of this class
+pub record IsClass (b : ℕ) (k : ByteClass) : Type 0 where
+  pub fact : ClassFact b k
+  pub feed : eqb b 10 ≡ line_feed k
+  pub is_blank : is_space_or_tab b ≡ blank k
+  pub is_white : is_blank_or_line_end b ≡ white k
 
 class_if : (b : ℕ) (t : Bool) {x y : ByteClass} → (t ≡ true → IsClass b x) → (t ≡ false → IsClass b y) → IsClass b (cond t x y)
 class_if b true f g = f refl
 class_if b false f g = g refl
-
-ascii_blank : (b : ℕ) → (eqb b 32 || eqb b 9) ≡ true → (0 < b) × (b < 128)
-ascii_blank b h = (grind (arith, nat_tests), grind (arith, nat_tests))
 
 ascii_one : (b n : ℕ) → (ltb 0 n && ltb n 128) ≡ true → eqb b n ≡ true → (0 < b) × (b < 128)
 ascii_one b n h e = (grind (arith, nat_tests), grind (arith, nat_tests))
@@ -53,19 +56,34 @@ ascii_three b i j k h e = (grind (arith, nat_tests), grind (arith, nat_tests))
 ascii_fixed : (b : ℕ) → begins_fixed b ≡ true → (0 < b) × (b < 128)
 ascii_fixed b h = (grind (arith, nat_tests), grind (arith, nat_tests))
 
-is_class : (b : ℕ) → IsClass b (class_of b)
+-- a blank, a line feed, and a carriage return
+is_blank_class : (b : ℕ) → (eqb b 32 || eqb b 9) ≡ true → IsClass b Blank
+is_blank_class b h = record { fact = (grind (arith, nat_tests), grind (arith, nat_tests)); feed = grind (arith, nat_tests); is_blank = h; is_white = grind (arith, nat_tests) }
+
+is_feed_class : (b : ℕ) → (eqb b 32 || eqb b 9) ≡ false → eqb b 10 ≡ true → IsClass b LineFeed
+is_feed_class b none h = record { fact = ascii_one b 10 refl h; feed = h; is_blank = none; is_white = grind (arith, nat_tests) }
+
+is_return_class : (b : ℕ) → (eqb b 32 || eqb b 9) ≡ false → eqb b 10 ≡ false → eqb b 13 ≡ true → IsClass b CarriageReturn
+is_return_class b none no_feed h = record { fact = ascii_one b 13 refl h; feed = no_feed; is_blank = none; is_white = grind (arith, nat_tests) }
+
+not_white : (b : ℕ) → (eqb b 32 || eqb b 9) ≡ false → eqb b 10 ≡ false → eqb b 13 ≡ false → is_blank_or_line_end b ≡ false
+not_white b h f g = grind (arith, nat_tests)
+
+pub is_class : (b : ℕ) → IsClass b (class_of b)
 unfolding class_of
 is_class b =
-    class_if b _ (λ h. record { fact = ascii_blank b h }) (λ _.
-    class_if b _ (λ h. record { fact = ascii_one b 10 refl h }) (λ _.
-    class_if b _ (λ h. record { fact = ascii_one b 13 refl h }) (λ _.
-    class_if b _ (λ h. record { fact = ascii_start b h }) (λ _.
-    class_if b _ (λ h. record { fact = ascii_continue b h }) (λ _.
-    class_if b _ (λ h. record { fact = ascii_three b 39 34 96 refl h }) (λ _.
-    class_if b _ (λ h. record { fact = ascii_three b 40 91 123 refl h }) (λ _.
-    class_if b _ (λ h. record { fact = ascii_three b 41 93 125 refl h }) (λ _.
-    class_if b _ (λ h. record { fact = ascii_fixed b h }) (λ _.
-    class_if b (ltb 193 b && ltb b 245) {x = Lead} {y = Other} (λ h. record { fact = tt }) (λ _. record { fact = tt }))))))))))
+    class_if b _ (is_blank_class b) (λ none.
+    class_if b _ (is_feed_class b none) (λ no_feed.
+    class_if b _ (is_return_class b none no_feed) (λ no_return.
+    let white : is_blank_or_line_end b ≡ false = not_white b none no_feed no_return in
+    class_if b _ {x = IdentifierStart} (λ h. record { fact = ascii_start b h; feed = no_feed; is_blank = none; is_white = white }) (λ _.
+    class_if b _ {x = IdentifierContinue} (λ h. record { fact = ascii_continue b h; feed = no_feed; is_blank = none; is_white = white }) (λ _.
+    class_if b _ {x = Quote} (λ h. record { fact = ascii_three b 39 34 96 refl h; feed = no_feed; is_blank = none; is_white = white }) (λ _.
+    class_if b _ {x = Opener} (λ h. record { fact = ascii_three b 40 91 123 refl h; feed = no_feed; is_blank = none; is_white = white }) (λ _.
+    class_if b _ {x = Closer} (λ h. record { fact = ascii_three b 41 93 125 refl h; feed = no_feed; is_blank = none; is_white = white }) (λ _.
+    class_if b _ {x = Fixed} (λ h. record { fact = ascii_fixed b h; feed = no_feed; is_blank = none; is_white = white }) (λ _.
+    class_if b (ltb 193 b && ltb b 245) {x = Lead} {y = Other} (λ h. record { fact = tt; feed = no_feed; is_blank = none; is_white = white })
+    (λ _. record { fact = tt; feed = no_feed; is_blank = none; is_white = white }))))))))))
 
 pub class_fact : (b : ℕ) (k : ByteClass) → class_of b ≡ k → ClassFact b k
 class_fact b k e = subst (ClassFact b) e (is_class b).fact
@@ -73,46 +91,21 @@ class_fact b k e = subst (ClassFact b) e (is_class b).fact
 pub eq_from : (a b : ℕ) → eqb a b ≡ true → a ≡ b
 eq_from a b h = grind (arith, nat_tests)
 
--- a line feed is a class of its own
-record IsNewline (b : ℕ) (k : ByteClass) : Type 0 where
-  same : eqb b 10 ≡ line_feed k
-
-newline_if : (b : ℕ) (t : Bool) {x y : ByteClass} → (t ≡ true → IsNewline b x) → (t ≡ false → IsNewline b y) → IsNewline b (cond t x y)
-newline_if b true f g = f refl
-newline_if b false f g = g refl
-
-blank_other : (b : ℕ) → (eqb b 32 || eqb b 9) ≡ true → eqb b 10 ≡ false
-blank_other b h = grind (arith, nat_tests)
-
-class_is : (b : ℕ) → IsNewline b (class_of b)
-unfolding class_of
-class_is b =
-    newline_if b _ (λ h. record { same = blank_other b h }) (λ _.
-    newline_if b _ (λ h. record { same = h }) (λ other.
-    newline_if b (eqb b 13) {x = CarriageReturn} (λ _. record { same = other }) (λ _.
-    newline_if b (is_ascii_alphabetic b || eqb b 95) {x = IdentifierStart} (λ _. record { same = other }) (λ _.
-    newline_if b (is_ascii_digit b || eqb b 45) {x = IdentifierContinue} (λ _. record { same = other }) (λ _.
-    newline_if b (eqb b 39 || eqb b 34 || eqb b 96) {x = Quote} (λ _. record { same = other }) (λ _.
-    newline_if b (eqb b 40 || eqb b 91 || eqb b 123) {x = Opener} (λ _. record { same = other }) (λ _.
-    newline_if b (eqb b 41 || eqb b 93 || eqb b 125) {x = Closer} (λ _. record { same = other }) (λ _.
-    newline_if b (begins_fixed b) {x = Fixed} (λ _. record { same = other }) (λ _.
-    newline_if b (ltb 193 b && ltb b 245) {x = Lead} {y = Other} (λ _. record { same = other }) (λ _. record { same = other }))))))))))
-
 pub is_line_feed : (b : ℕ) (k : ByteClass) → class_of b ≡ k → eqb b 10 ≡ line_feed k
-is_line_feed b k e = (class_is b).same ∙ ap line_feed e
+is_line_feed b k e = (is_class b).feed ∙ ap line_feed e
 
 pub not_newline : (b c : ℕ) → eqb c 10 ≡ false → eqb b c ≡ true → eqb b 10 ≡ false
 not_newline b c h e = subst (λ (x : ℕ). eqb x 10 ≡ false) (sym (eq_from b c e)) h
 
 pub blank_no_newline : (b : ℕ) → is_blank b ≡ true → eqb b 10 ≡ false
-blank_no_newline b h = (class_is b).same ∙ go (class_of b) h
+blank_no_newline b h = (is_class b).feed ∙ go (class_of b) h
   where
-    go : (k : ByteClass) → Rattle.justfile_model.specs.Lexing.Bytes.blank k ≡ true → line_feed k ≡ false
+    go : (k : ByteClass) → blank k ≡ true → line_feed k ≡ false
     go LineFeed h = cc
     go _ h = refl
 
 pub word_no_newline : (b : ℕ) → is_name_byte b ≡ true → eqb b 10 ≡ false
-word_no_newline b h = (class_is b).same ∙ go (class_of b) h
+word_no_newline b h = (is_class b).feed ∙ go (class_of b) h
   where
     go : (k : ByteClass) → in_word k ≡ true → line_feed k ≡ false
     go LineFeed h = cc
@@ -139,7 +132,7 @@ run_positive p (b ∷ bs) l h = rw h (omega arith)
 pub blank_ascii : (b : ℕ) → is_blank b ≡ true → b < 128
 blank_ascii b h = go (class_of b) (is_class b).fact h
   where
-    go : (k : ByteClass) → ClassFact b k → Rattle.justfile_model.specs.Lexing.Bytes.blank k ≡ true → b < 128
+    go : (k : ByteClass) → ClassFact b k → blank k ≡ true → b < 128
     go Blank f h = f.1
     go _ f h = cc
 
@@ -209,10 +202,10 @@ module _ (hide : List ℕ → ℕ) (end : List ℕ → Bool) where
   stops (b ∷ bs) zero = stops_by _ _ b bs refl refl (stops bs)
   stops (b ∷ bs) (suc n) = stops_suc n b bs (suc n) refl (stops bs n)
 
-quote_ascii : (d : StringDelimiter) → (0 < quote_of d) × (quote_of d < 128)
+-- a quote is no control character, and before the braces
+pub quote_ascii : (d : StringDelimiter) → (31 < quote_of d) × (quote_of d < 123)
 quote_ascii Backtick = (omega arith, omega arith)
-quote_ascii QuoteDouble = (omega arith, omega arith)
-quote_ascii QuoteSingle = (omega arith, omega arith)
+quote_ascii _ = (omega arith, omega arith)
 
 delimiter_first : (k : StringKind) (bs : List ℕ) → is_delimiter k bs ≡ true → get_or bs 0 0 ≡ quote_of k.delimiter
 delimiter_first k bs h = go k.indented h
@@ -321,11 +314,11 @@ raw_within s rest = (stops (hides s) (ends s) rest 0).within
 pub delimiter_is : (k : StringKind) (bs : List ℕ) → is_delimiter k bs ≡ true → IsUtf8 bs → IsCharBoundary bs (cond k.indented 3 1)
 delimiter_is k bs h u = go k.indented h
   where
-    q : (0 < quote_of k.delimiter) × (quote_of k.delimiter < 128)
+    q : (31 < quote_of k.delimiter) × (quote_of k.delimiter < 123)
     q = quote_ascii k.delimiter
 
     at : (i n : ℕ) → get_or bs i 0 ≡ quote_of k.delimiter → i + 1 ≡ n → IsCharBoundary bs n
-    at i n e s = after_byte bs i n u (there bs i _ q.0 e) (omega (arith, e, q.1)) s
+    at i n e s = after_byte bs i n u (there bs i _ (omega (arith, q.0)) e) (omega (arith, e, q.1)) s
 
     third : (a b c d : ℕ) → (eqb a d && eqb b d && eqb c d) ≡ true → c ≡ d
     third a b c d h = grind (arith, nat_tests)
@@ -338,17 +331,12 @@ delimiter_is k bs h u = go k.indented h
 pub delimiter_last : (k : StringKind) (bs : List ℕ) → is_delimiter k bs ≡ true → eqb (get_or bs (delimiter_len k - 1) 0) 10 ≡ false
 delimiter_last k bs h = go k.indented h
   where
-    third : (a b c : Bool) → (a && b && c) ≡ true → c ≡ true
-    third a b c h = (and_parts (a && b) c h).1
-
-    no_quote : (d : StringDelimiter) → eqb (quote_of d) 10 ≡ false
-    no_quote Backtick = refl
-    no_quote QuoteDouble = refl
-    no_quote QuoteSingle = refl
+    q : (31 < quote_of k.delimiter) × (quote_of k.delimiter < 123)
+    q = quote_ascii k.delimiter
 
     go : (t : Bool) → cond t (eqb (get_or bs 0 0) (quote_of k.delimiter) && eqb (get_or bs 1 0) (quote_of k.delimiter) && eqb (get_or bs 2 0) (quote_of k.delimiter)) (eqb (get_or bs 0 0) (quote_of k.delimiter)) ≡ true → eqb (get_or bs (cond t 3 1 - 1) 0) 10 ≡ false
-    go true h = not_newline (get_or bs 2 0) (quote_of k.delimiter) (no_quote k.delimiter) (third (eqb (get_or bs 0 0) (quote_of k.delimiter)) (eqb (get_or bs 1 0) (quote_of k.delimiter)) (eqb (get_or bs 2 0) (quote_of k.delimiter)) h)
-    go false h = not_newline (get_or bs 0 0) (quote_of k.delimiter) (no_quote k.delimiter) h
+    go true h = grind (arith, nat_tests, q.0)
+    go false h = grind (arith, nat_tests, q.0)
 
 -- the last byte of a byte order mark
 pub mark_last : (rest : List ℕ) → IsUtf8 rest → 0 < length rest → eqb (first_char rest) 65279 ≡ true → eqb (get_or rest 2 0) 10 ≡ false

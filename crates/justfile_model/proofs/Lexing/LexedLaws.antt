@@ -43,12 +43,11 @@ module _ (text : List ℕ) where
 
   same_begins : (a b : List Tok) → Begins text a → Begins text b → length a ≡ length b → a ≡ b
   same_begins [] [] p q e = refl
-  same_begins [] (u ∷ b) p q e = absurd (omega arith)
-  same_begins (t ∷ a) [] p q e = absurd (omega arith)
   same_begins (t ∷ a) (u ∷ b) p q e =
       let tails : a ≡ b = same_begins a b p.0 q.0 (omega arith) in
       let heads : t ≡ u = same_next b t u (subst (λ x. IsNext text x t) tails p.1) q.1 in
       λ i. heads i ∷ tails i
+  same_begins _ _ p q e = absurd (omega arith)
 
   record Continues (a : List Tok) : Type 0 where
     token : Tok
@@ -72,25 +71,25 @@ module _ (text : List ℕ) where
   no_next : (k : LexicalFault) (t : Tok) (p : IsFault text k t) → Continues p.earlier → ⊥
   no_next k t p c = cc (p.refused, c.is_next.found)
 
+  -- lists that don't go on are one
+  same_earlier : (a b : List Tok) → Begins text a → Begins text b → (Continues a → ⊥) → (Continues b → ⊥) → a ≡ b
+  same_earlier a b p q no_a no_b =
+      ⊎_elim (λ l. absurd (no_a (continues a b p q l))) (λ h.
+      ⊎_elim (λ l. absurd (no_b (continues b a q p l))) (λ g. same_begins a b p q (omega arith))
+      (cases_lt (length b) (length a)))
+      (cases_lt (length a) (length b))
+
   pub one_list : (ts us : List Tok) → Lexed text ts → Lexed text us → ts ≡ us
   one_list ts us p q =
-      ⊎_elim (λ l. absurd (no_more ts p (continues p.earlier q.earlier p.begins q.begins l))) (λ h.
-      ⊎_elim (λ l. absurd (no_more us q (continues q.earlier p.earlier q.begins p.begins l))) (λ g.
-      let earlier = same_begins p.earlier q.earlier p.begins q.begins (omega arith) in
+      let earlier = same_earlier p.earlier q.earlier p.begins q.begins (no_more ts p) (no_more us q) in
       let last = same_next q.earlier p.last q.last (subst (λ x. IsNext text x p.last) earlier p.is_next) q.is_next in
-      sym (reverse-reverse ts) ∙ ap reverse (p.are ∙ (λ i. last i ∷ earlier i) ∙ sym q.are) ∙ reverse-reverse us)
-      (cases_lt (length q.earlier) (length p.earlier)))
-      (cases_lt (length p.earlier) (length q.earlier))
+      sym (reverse-reverse ts) ∙ ap reverse (p.are ∙ (λ i. last i ∷ earlier i) ∙ sym q.are) ∙ reverse-reverse us
 
   pub never_both : (ts : List Tok) (k : LexicalFault) (t : Tok) → Lexed text ts → IsFault text k t → ⊥
   never_both ts k t p q =
-      ⊎_elim (λ l. no_more ts p (continues p.earlier q.earlier p.begins q.begins l)) (λ h.
-      ⊎_elim (λ l. no_next k t q (continues q.earlier p.earlier q.begins p.begins l)) (λ g.
-      let earlier = same_begins p.earlier q.earlier p.begins q.begins (omega arith) in
+      let earlier = same_earlier p.earlier q.earlier p.begins q.begins (no_more ts p) (no_next k t q) in
       let found = subst (λ x. IsNext text x p.last) earlier p.is_next in
-      cc (found.found, q.refused))
-      (cases_lt (length q.earlier) (length p.earlier)))
-      (cases_lt (length p.earlier) (length q.earlier))
+      cc (found.found, q.refused)
 
   span_same : (e : List Tok) (r : LexicalError) (p q : LexicalFault) (t u : Tok) → IsSpan text e r p t → IsSpan text e r q u → (p ≡ q) × (t ≡ u)
   span_same e (Here p skip n) k m t u x y = (x.0 ∙ sym y.0, same_standing (end_of e + skip) t u x.3 y.3 (x.1 ∙ sym y.1) (x.2 ∙ sym y.2))
@@ -98,14 +97,10 @@ module _ (text : List ℕ) where
 
   pub one_fault : (k m : LexicalFault) (t u : Tok) → IsFault text k t → IsFault text m u → (k ≡ m) × (t ≡ u)
   one_fault k m t u p q =
-      ⊎_elim (λ l. absurd (no_next k t p (continues p.earlier q.earlier p.begins q.begins l))) (λ h.
-      ⊎_elim (λ l. absurd (no_next m u q (continues q.earlier p.earlier q.begins p.begins l))) (λ g.
-      let earlier = same_begins p.earlier q.earlier p.begins q.begins (omega arith) in
+      let earlier = same_earlier p.earlier q.earlier p.begins q.begins (no_next k t p) (no_next m u q) in
       let same = err_inside _ _ (sym p.refused ∙ ap (next_of text) earlier ∙ q.refused) in
       let spans = subst (λ e. IsSpan text e p.refusal k t) earlier p.spans in
-      span_same q.earlier q.refusal k m t u (subst (λ r. IsSpan text q.earlier r k t) same spans) q.spans)
-      (cases_lt (length q.earlier) (length p.earlier)))
-      (cases_lt (length p.earlier) (length q.earlier))
+      span_same q.earlier q.refusal k m t u (subst (λ r. IsSpan text q.earlier r k t) same spans) q.spans
 
   -- read from the first token on
   pub from_follows : (e ts : List Tok) → Begins text e → Follows text e ts → Lexed text (reverse e ++ ts)

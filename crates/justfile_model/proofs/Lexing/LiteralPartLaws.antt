@@ -3,9 +3,7 @@ use Rattle.std.proofs.Common.{◌≡◌, ◌≢◌, ℕ, ◌+◌, ◌<◌, Bool,
 use Rattle.std.specs.Prelude.{◌↔◌, ◌||◌, ◌&&◌, replicate}
 use Rattle.std.proofs.lemmas.Bool.{and_parts}
 use Rattle.std.proofs.lemmas.Bool.Decides.{nat_tests}
-use Rattle.std.proofs.lemmas.List.{drop_at, length-append, length-take-le, take-append-drop}
-use Rattle.justfile_token.specs.declared.string_kind.StringDelimiter.{StringDelimiter}
-use Rattle.justfile_token.specs.declared.string_kind.StringDelimiter.TheVariants.{Backtick, QuoteDouble, QuoteSingle}
+use Rattle.std.proofs.lemmas.List.{length-replicate, drop_at, length-append, length-take-le, take-append-drop}
 use Rattle.justfile_token.specs.declared.string_kind.StringKind.{StringKind}
 use Rattle.justfile_vocabulary.specs.declared.token_kind.TokenKind.{TokenKind}
 use Rattle.justfile_token.specs.StringKind.{delimiter_len, delimiter_text, quote_of}
@@ -16,29 +14,22 @@ use Rattle.justfile_model.specs.Lexing.LiteralParts.{EndsWithBraces, EndsWithDel
 use Rattle.justfile_model.specs.Lexing.LiteralText.{is_delimiter, raw_len}
 use Rattle.justfile_model.specs.Lexing.Next.{NextToken, literal_part, unterminated}
 use Rattle.justfile_model.specs.Lexing.Pieces.{IsInside}
-use Rattle.justfile_model.proofs.Lexing.CutLemmas.{eq_from, ne_from, raw_within}
+use Rattle.justfile_model.proofs.Lexing.CutLemmas.{eq_from, ne_from, quote_ascii, raw_within}
 use Rattle.justfile_model.proofs.Lexing.PieceLaws.{inside_law, no_end_law}
 
 -- ---- the bytes of an end
 
 three_first : (q : ℕ) → 0 < q → (bs : List ℕ) → (eqb (get_or bs 0 0) q && eqb (get_or bs 1 0) q && eqb (get_or bs 2 0) q) ≡ true → bs ≡ q ∷ q ∷ q ∷ drop 3 bs
-three_first q some [] h = grind (arith, nat_tests)
-three_first q some (x ∷ []) h = grind (arith, nat_tests)
-three_first q some (x ∷ y ∷ []) h = grind (arith, nat_tests)
 three_first q some (x ∷ y ∷ z ∷ zs) h =
     let a : x ≡ q = grind (arith, nat_tests) in
     let b : y ≡ q = grind (arith, nat_tests) in
     let c : z ≡ q = grind (arith, nat_tests) in
     λ i. a i ∷ b i ∷ c i ∷ zs
+three_first q some _ h = grind (arith, nat_tests)
 
 one_first : (q : ℕ) → 0 < q → (bs : List ℕ) → eqb (get_or bs 0 0) q ≡ true → bs ≡ q ∷ drop 1 bs
 one_first q some [] h = grind (arith, nat_tests)
 one_first q some (x ∷ xs) h = let a : x ≡ q = grind (arith, nat_tests) in λ i. a i ∷ xs
-
-quote_positive : (d : StringDelimiter) → 0 < quote_of d
-quote_positive Backtick = omega arith
-quote_positive QuoteDouble = omega arith
-quote_positive QuoteSingle = omega arith
 
 delimiter_first : (k : StringKind) (bs : List ℕ) → is_delimiter k bs ≡ true → bs ≡ delimiter_text k ++ drop (delimiter_len k) bs
 delimiter_first k bs h = by k.indented h
@@ -47,15 +38,11 @@ delimiter_first k bs h = by k.indented h
     q = quote_of k.delimiter
 
     by : (b : Bool) → cond b (eqb (get_or bs 0 0) q && eqb (get_or bs 1 0) q && eqb (get_or bs 2 0) q) (eqb (get_or bs 0 0) q) ≡ true → bs ≡ replicate (cond b 3 1) q ++ drop (cond b 3 1) bs
-    by true h = three_first q (quote_positive k.delimiter) bs h
-    by false h = one_first q (quote_positive k.delimiter) bs h
+    by true h = three_first q (omega (arith, quote_ascii k.delimiter)) bs h
+    by false h = one_first q (omega (arith, quote_ascii k.delimiter)) bs h
 
 delimiter_length : (k : StringKind) → length (delimiter_text k) ≡ delimiter_len k
-delimiter_length k = by k.indented
-  where
-    by : (b : Bool) → length (replicate (cond b 3 1) (quote_of k.delimiter)) ≡ cond b 3 1
-    by true = refl
-    by false = refl
+delimiter_length k = length-replicate (delimiter_len k) (quote_of k.delimiter)
 
 braces_first : (bs : List ℕ) → is_interpolation_start bs ≡ true → bs ≡ codes "{{" ++ drop 2 bs
 braces_first [] h = cc
@@ -67,26 +54,14 @@ braces_first (x ∷ y ∷ ys) h =
 
 -- no delimiter begins with a brace
 no_start : (k : StringKind) (follows : List ℕ) → is_interpolation_start (delimiter_text k ++ follows) ≡ false
-no_start k follows = by k.delimiter k.indented
+no_start k follows = by k.indented
   where
-    by : (d : StringDelimiter) (b : Bool) → is_interpolation_start (replicate (cond b 3 1) (quote_of d) ++ follows) ≡ false
-    by Backtick true = refl
-    by Backtick false = refl
-    by QuoteDouble true = refl
-    by QuoteDouble false = refl
-    by QuoteSingle true = refl
-    by QuoteSingle false = refl
+    by : (b : Bool) → is_interpolation_start (replicate (cond b 3 1) (quote_of k.delimiter) ++ follows) ≡ false
+    by true = grind (arith, nat_tests, quote_ascii k.delimiter)
+    by false = grind (arith, nat_tests, quote_ascii k.delimiter)
 
 no_delimiter : (k : StringKind) (follows : List ℕ) → is_delimiter k (codes "{{" ++ follows) ≡ false
-no_delimiter k follows = by k.delimiter k.indented
-  where
-    by : (d : StringDelimiter) (b : Bool) → is_delimiter (record { delimiter = d; indented = b }) (codes "{{" ++ follows) ≡ false
-    by Backtick true = refl
-    by Backtick false = refl
-    by QuoteDouble true = refl
-    by QuoteDouble false = refl
-    by QuoteSingle true = refl
-    by QuoteSingle false = refl
+no_delimiter k follows = grind (arith, nat_tests, quote_ascii k.delimiter)
 
 -- ---- the part
 
@@ -129,11 +104,7 @@ module _ (k : StringKind) (format : Bool) (more whole : TokenKind) (opener : Lis
 
   with_end : (inside follows : List ℕ) → IsInside (Literal k format) inside follows → (b : Bool) → (format && is_interpolation_start follows) ≡ b → Part (inside ++ follows) (cond b (Ok (more, length opener + length inside + 2)) (Ok (whole, length opener + length inside + delimiter_len k)))
   with_end inside follows i true h = with_braces inside follows i (and_parts format _ h).1
-  with_end inside follows i false h = with_delimiter inside follows i (one_left _ _ i.end_follows.ends_here h)
-    where
-      one_left : (a b : Bool) → (a || b) ≡ true → b ≡ false → a ≡ true
-      one_left true b h e = refl
-      one_left false b h e = cc
+  with_end inside follows i false h = with_delimiter inside follows i (let ends = i.end_follows.ends_here in grind (arith, nat_tests))
 
   found_part : (text : List ℕ) → Part text (found_by text (raw_len (Literal k format) text))
   unfolding found_by
@@ -172,12 +143,10 @@ module _ (k : StringKind) (format : Bool) (more whole : TokenKind) (opener : Lis
       shorter (b ∷ bs) some = not_same _ _ (omega (arith, length-append inside (b ∷ bs)))
 
   and_false : (a b : Bool) → b ≡ false → (a && b) ≡ false
-  and_false true b h = h
-  and_false false b h = refl
+  and_false a b h = grind (arith, nat_tests)
 
   or_right : (a b : Bool) → (a || b) ≡ true → a ≡ false → b ≡ true
-  or_right true b h e = cc
-  or_right false b h e = h
+  or_right a b h e = grind (arith, nat_tests)
 
   part_found : (text : List ℕ) (found : NextToken) → Part text found → found_by text (raw_len (Literal k format) text) ≡ found
   unfolding found_by Part

@@ -10,7 +10,7 @@ use Rattle.justfile_model.specs.Lexing.Lexed.{Begins}
 use Rattle.justfile_model.specs.Lexing.Modes.{Mode, mode_after, mode, tail_of}
 use Rattle.justfile_model.specs.Lexing.Tok.{Tok}
 use Rattle.justfile_model.specs.Lexing.Unclosed.{UnclosedDelimiters, UnclosedInterpolations, UnclosedLevels, delimiter_by, delimiter_closer, delimiter_of, interpolation_opened, level_by}
-use Rattle.justfile_model.proofs.Lexing.FittingTokens.{ClosesFirst, Fits, token_fits}
+use Rattle.justfile_model.proofs.Lexing.NextLaws.{ClosesFirst, Fits, token_fits}
 use Rattle.justfile_model.proofs.Lexing.UnclosedLaws.{Closes, Opens, Stays, Step, Steps, unclosed_law}
 
 -- ---- delimiters

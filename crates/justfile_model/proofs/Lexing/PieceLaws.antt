@@ -5,32 +5,17 @@ use Rattle.std.specs.List.{concat}
 use Rattle.std.proofs.lemmas.Bool.{cases_lt}
 use Rattle.std.proofs.lemmas.Bool.Decides.{nat_tests}
 use Rattle.std.proofs.lemmas.List.{append_assoc, length-append, take-append-drop, take-append-le, drop-append-le, take_at, drop_at}
-use Rattle.justfile_token.specs.declared.string_kind.StringDelimiter.{StringDelimiter}
-use Rattle.justfile_token.specs.declared.string_kind.StringDelimiter.TheVariants.{Backtick, QuoteDouble, QuoteSingle}
 use Rattle.justfile_model.specs.declared.raw_text.RawText.{RawText}
 use Rattle.justfile_model.specs.declared.raw_text.RawText.TheVariants.{Comment, Body, Literal}
 use Rattle.justfile_model.specs.Lexing.LiteralText.{pieces_len, hides, ends, raw_len}
 use Rattle.justfile_model.specs.Lexing.Pieces.{first_piece, ArePieces, IsBetweenPieces, IsEnd, IsInside, HasNoEnd}
+use Rattle.justfile_model.proofs.Lexing.CutLemmas.{quote_ascii}
 
 -- nothing ends an empty text
 no_end_in_nil : (s : RawText) → ends s [] ≡ true → ⊥
 no_end_in_nil Comment h = cc
 no_end_in_nil Body h = cc
-no_end_in_nil (Literal k format) h = go k.delimiter k.indented format h
-  where
-    go : (d : StringDelimiter) (indented format : Bool) → ends (Literal (record { delimiter = d; indented = indented }) format) [] ≡ true → ⊥
-    go Backtick true true h = cc
-    go Backtick true false h = cc
-    go Backtick false true h = cc
-    go Backtick false false h = cc
-    go QuoteDouble true true h = cc
-    go QuoteDouble true false h = cc
-    go QuoteDouble false true h = cc
-    go QuoteDouble false false h = cc
-    go QuoteSingle true true h = cc
-    go QuoteSingle true false h = cc
-    go QuoteSingle false true h = cc
-    go QuoteSingle false false h = cc
+no_end_in_nil (Literal k format) h = grind (arith, nat_tests, quote_ascii k.delimiter)
 
 drop_taken : (n : ℕ) (xs : List ℕ) → drop (length (take n xs)) xs ≡ drop n xs
 drop_taken zero xs = refl

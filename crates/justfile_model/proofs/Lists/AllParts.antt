@@ -1,5 +1,5 @@
 -- What all elements of a list have: those of its parts have it, and what they are mapped to.
-use Rattle.std.proofs.Common.{List, [], ◌∷◌, ◌++◌, map}
+use Rattle.std.proofs.Common.{List, [], ◌∷◌, ◌++◌}
 use Rattle.std.specs.List.{AllByRecursion, flat_map}
 
 module _ {X : Type 0} (P : X → Type 0) where
@@ -29,15 +29,3 @@ module _ {X : Type 0} (P : X → Type 0) where
 pub each_of : {X : Type 0} (P Q : X → Type 0) → ((x : X) → P x → Q x) → (xs : List X) → AllByRecursion P xs → AllByRecursion Q xs
 each_of P Q f [] h = tt
 each_of P Q f (x ∷ xs) h = (f x h.0, each_of P Q f xs h.1)
-
--- what is said of elements is said of what they are mapped to
-pub all_mapped : {A B : Type 0} {P : A → Type 0} (Q : B → Type 0) (f : A → B) → ((a : A) → P a → Q (f a)) → (xs : List A) → AllByRecursion P xs
-    → AllByRecursion Q (map f xs)
-all_mapped Q f more [] h = tt
-all_mapped Q f more (x ∷ xs) h = (more x h.0, all_mapped Q f more xs h.1)
-
--- what holds of the images holds of the elements
-pub of_mapped : {A B : Type 0} (P : B → Type 0) {Q : A → Type 0} (f : A → B) → ((a : A) → P (f a) → Q a) → (xs : List A) → AllByRecursion P (map f xs)
-    → AllByRecursion Q xs
-of_mapped P f back [] h = tt
-of_mapped P f back (x ∷ xs) h = (back x h.0, of_mapped P f back xs h.1)

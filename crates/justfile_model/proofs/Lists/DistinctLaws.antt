@@ -1,19 +1,14 @@
 -- The list with only the last one of the elements that are the same.
-use Rattle.std.proofs.Common.{◌≡◌, ◌∙◌, ◌||◌, List, [], ◌∷◌, Bool, true, false, cond, refl, sym, ap, true≢false}
+use Rattle.std.proofs.Common.{◌≡◌, ◌∙◌, ◌||◌, List, [], ◌∷◌, Bool, true, false, cond, refl, sym, ap, true≢false, arith}
 use Rattle.std.specs.List.{AllByRecursion, list_any}
 use Rattle.std.specs.Ordering.{is_gt}
 use Rattle.std.specs.declared.cmp.Ordering.{Ordering}
+use Rattle.std.proofs.lemmas.Bool.{or_parts}
+use Rattle.std.proofs.lemmas.Bool.Decides.{nat_tests}
 use Rattle.std.proofs.lemmas.List.Sorted.{list_any-IsPermutation}
 use Rattle.justfile_model.specs.Lists.Distinct.{Distinct, kept_last}
 use Rattle.justfile_model.specs.Lists.Order.{in_order, placed}
 use Rattle.justfile_model.proofs.Lists.OrderLaws.{any_in_order, placed_permutation}
-
-neither : (a b : Bool) → (a || b) ≡ false → (a ≡ false) × (b ≡ false)
-neither true b e = absurd (true≢false e)
-neither false b e = (refl, e)
-
-or_none : (a b : Bool) → a ≡ false → b ≡ false → (a || b) ≡ false
-or_none a b h k = λ i. h i || k i
 
 if_either : (a b : Bool) → (a ≡ true → b ≡ true) → b ≡ (a || b)
 if_either true b h = h refl
@@ -38,13 +33,9 @@ module _ {X : Type 0} (same : X → X → Bool) where
       → list_any (same x) (y ∷ ys) ≡ true → list_any p (y ∷ ys) ≡ true
   here_or_later p x y ys alike k later h = go (same x y) refl h
     where
-      either : (a : Bool) → list_any p ys ≡ true → (a || list_any p ys) ≡ true
-      either true e = refl
-      either false e = e
-
       go : (b : Bool) → same x y ≡ b → (b || list_any (same x) ys) ≡ true → (p y || list_any p ys) ≡ true
       go true e h = ap (λ b. b || list_any p ys) (sym (alike x y e) ∙ k)
-      go false e h = either (p y) (later h)
+      go false e h = let others = later h in grind (arith, nat_tests)
 
   passed_later : (p : X → Bool) (x : X) (ys : List X) → RespectsSame p → list_any (same x) ys ≡ true → p x ≡ true → list_any p ys ≡ true
   passed_later p x [] alike h k = absurd (true≢false (sym h))
@@ -59,22 +50,16 @@ module _ {X : Type 0} (same : X → X → Bool) where
       within true e k = k ∙ if_either (p x) (list_any p xs) (e refl)
       within false e k = ap (λ b. p x || b) k
 
-  -- ---- lists that it leaves as they are
-
-  -- ---- distinct by index
-
-  -- ---- where `same` is an equivalence
-
   -- ---- in order
 
   module _ (R : X → X → Ordering) (symmetric : (x y : X) → same x y ≡ same y x) where
     none_placed : (p : X → Bool) (x : X) (ys : List X) → p x ≡ false → list_any p ys ≡ false → list_any p (placed R x ys) ≡ false
-    none_placed p x ys e h = sym (list_any-IsPermutation p (x ∷ ys) (placed R x ys) (placed_permutation R x ys)) ∙ or_none (p x) (list_any p ys) e h
+    none_placed p x ys e h = sym (list_any-IsPermutation p (x ∷ ys) (placed R x ys) (placed_permutation R x ys)) ∙ (λ i. e i || h i)
 
     distinct_placed : (x : X) (ys : List X) → list_any (same x) ys ≡ false → Distinct same ys → Distinct same (placed R x ys)
     distinct_placed x [] h k = (refl, tt)
     distinct_placed x (y ∷ ys) h k =
-        let n = neither (same x y) (list_any (same x) ys) h in
+        let n = or_parts (same x y) (list_any (same x) ys) h in
         within (is_gt (R x y)) (none_placed (same y) x ys (symmetric y x ∙ n.0) k.0) (distinct_placed x ys n.1 k.1)
       where
         within : (b : Bool) → list_any (same y) (placed R x ys) ≡ false → Distinct same (placed R x ys)
@@ -85,6 +70,3 @@ module _ {X : Type 0} (same : X → X → Bool) where
     pub distinct_in_order : (xs : List X) → Distinct same xs → Distinct same (in_order R xs)
     distinct_in_order [] h = tt
     distinct_in_order (x ∷ xs) h = distinct_placed x (in_order R xs) (any_in_order R (same x) xs ∙ h.0) (distinct_in_order xs h.1)
-    -- ---- in order, where what is the same ties
-
--- ---- what two lists keep, if they are related

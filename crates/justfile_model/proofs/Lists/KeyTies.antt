@@ -23,7 +23,7 @@ use Rattle.justfile_model.specs.contracts.conditional_operator.ConditionalOperat
 use Rattle.justfile_model.specs.Trees.ContentLeaf.{ContentLeaf, token, literal, operator, text, count, signal, unseen, content_cmp, token_content_cmp, literal_content_cmp, string_kind_cmp}
 use Rattle.justfile_model.specs.Trees.ContentLeafLaws.{content_total}
 use Rattle.justfile_model.specs.Trees.Key.{Key, Keys, leaf, node, end, next, key_cmp, keys_cmp, map_key}
-use Rattle.justfile_model.specs.Trees.KeyLaws.{less_not_equal, greater_not_equal, then_equal, key_total, mapped_key_cmp}
+use Rattle.justfile_model.specs.Trees.KeyLaws.{then_equal, key_total, mapped_key_cmp}
 
 -- ---- the parts of a leaf
 
@@ -44,15 +44,13 @@ operator_exact a b e = same_true operators.the_type tt a b ((bare_tied operators
 
 bool_exact : CmpEqualImpliesEq bool_cmp
 bool_exact true true e = refl
-bool_exact true false e = greater_not_equal e
-bool_exact false true e = less_not_equal e
 bool_exact false false e = refl
+bool_exact _ _ e = cc
 
 option_exact : {X : Type 0} (R : X → X → Ordering) → CmpEqualImpliesEq R → CmpEqualImpliesEq (option_cmp R)
 option_exact R exact None None e = refl
-option_exact R exact None (Some y) e = less_not_equal e
-option_exact R exact (Some x) None e = greater_not_equal e
 option_exact R exact (Some x) (Some y) e = ap (λ z. Some z) (exact x y e)
+option_exact R exact _ _ e = cc
 
 token_content_exact : CmpEqualImpliesEq token_content_cmp
 token_content_exact s t e =
@@ -100,19 +98,17 @@ module _ {L : Type 0} {leaf_cmp : L → L → Ordering} (exact : CmpEqualImplies
   mutual
     pub key_exact : (k l : Key L) → key_cmp leaf_cmp k l ≡ Equal → k ≡ l
     key_exact (leaf a) (leaf b) e = ap (λ z. leaf z) (exact a b e)
-    key_exact (leaf a) (node n ls) e = less_not_equal e
-    key_exact (node m ks) (leaf b) e = greater_not_equal e
     key_exact (node m ks) (node n ls) e =
         let o = then_equal (nat_cmp m n) (keys_cmp leaf_cmp ks ls) e in
         λ i. node (exact_unsigned m n o.0 i) (keys_exact ks ls o.1 i)
+    key_exact _ _ e = cc
 
     keys_exact : (ks ls : Keys L) → keys_cmp leaf_cmp ks ls ≡ Equal → ks ≡ ls
     keys_exact end end e = refl
-    keys_exact end (next l ls) e = less_not_equal e
-    keys_exact (next k ks) end e = greater_not_equal e
     keys_exact (next k ks) (next l ls) e =
         let o = then_equal (key_cmp leaf_cmp k l) (keys_cmp leaf_cmp ks ls) e in
         λ i. next (key_exact k l o.0 i) (keys_exact ks ls o.1 i)
+    keys_exact _ _ e = cc
 
 -- by what their leaves hold two keys compare as equal exactly where they hold the same
 pub same_content : {L : Type 0} (content_of : L → ContentLeaf) (k l : Key L)

@@ -8,49 +8,24 @@ use Rattle.std.specs.List.Sorted.{IsSorted, IsSortedByClosure, IsStable, IsStabl
 use Rattle.std.specs.Cmp.{IsTotalOrder, IsStrictWeakOrder}
 use Rattle.std.specs.declared.cmp.Ordering.{Ordering}
 use Rattle.std.specs.declared.cmp.Ordering.TheVariants.{Less, Equal, Greater}
+use Rattle.std.proofs.lemmas.Bool.Decides.{nat_tests}
 use Rattle.std.proofs.lemmas.Cmp.{upto, tied_itself}
 use Rattle.std.proofs.lemmas.Fn.{always_returns_same}
 use Rattle.std.proofs.lemmas.List.Sorted.{All-permutation, IsPermutation-cons, IsPermutation-middle, IsPermutation-refl, IsPermutation-sym, IsPermutation-trans, list_any-IsPermutation, ranks_by, sorted_far}
 use Rattle.justfile_model.specs.Lists.Order.{IsStableSort, placed, in_order}
 
--- ---- lists with a first element
-
-first : {X : Type 0} → X → List X → X
-first d [] = d
-first d (x ∷ xs) = x
-
-others : {X : Type 0} → List X → List X
-others [] = []
-others (x ∷ xs) = xs
-
-is_nil : {X : Type 0} → List X → Bool
-is_nil [] = true
-is_nil (x ∷ xs) = false
-
-same_first : {X : Type 0} (x y : X) (xs ys : List X) → x ∷ xs ≡ y ∷ ys → x ≡ y
-unfolding first
-same_first x y xs ys e = ap (first x) e
-
-same_others : {X : Type 0} (x y : X) (xs ys : List X) → x ∷ xs ≡ y ∷ ys → xs ≡ ys
-unfolding others
-same_others x y xs ys e = ap others e
-
-never_empty : {X P : Type 0} (x : X) (xs : List X) → [] ≡ x ∷ xs → P
-unfolding is_nil
-never_empty x xs e = absurd (true≢false (ap is_nil e))
-
 module _ {X : Type 0} (p : X → Bool) where
   -- what a test lets through first
   kept_if : (P : X → Type 0) (b : Bool) (x w : X) (l ws : List X) → P x → (l ≡ w ∷ ws → P w) → cond b (x ∷ l) l ≡ w ∷ ws → P w
-  kept_if P true x w l ws h k e = subst P (same_first x w l ws e) h
+  kept_if P true x w l ws h k e = let same : x ≡ w = cc in subst P same h
   kept_if P false x w l ws h k e = k e
 
   kept_first : (P : X → Type 0) (xs : List X) (w : X) (ws : List X) → AllByRecursion P xs → filter p xs ≡ w ∷ ws → P w
-  kept_first P [] w ws h e = never_empty w ws e
+  kept_first P [] w ws h e = cc
   kept_first P (x ∷ xs) w ws h e = kept_if P (p x) x w (filter p xs) ws h.0 (kept_first P xs w ws h.1) e
 
   cancel : (b : Bool) (x : X) (l m : List X) → cond b (x ∷ l) l ≡ cond b (x ∷ m) m → l ≡ m
-  cancel true x l m e = same_others x x l m e
+  cancel true x l m e = cc
   cancel false x l m e = e
 
 module _ {X : Type 0} (R : X → X → Ordering) where
@@ -108,10 +83,9 @@ module _ {X : Type 0} {R : X → X → Ordering} (o : IsTotalOrder R) where
   ascends_from_sorted xs h = ascends_of xs (sorted_far lt weak xs h)
 
   adjacent : (xs : List X) → Ascends R xs → (k : ℕ) (d : X) → suc k < length xs → lt (get_or xs (suc k) d) (get_or xs k d) ≡ false
-  adjacent [] h k d l = absurd (omega arith)
-  adjacent (x ∷ []) h k d l = absurd (omega arith)
   adjacent (x ∷ y ∷ ys) h zero d l = h.0.0
   adjacent (x ∷ y ∷ ys) h (suc k) d l = adjacent (y ∷ ys) h.1 k d (omega arith)
+  adjacent _ h k d l = absurd (omega arith)
 
   pub sorted_from_ascends : (xs : List X) → Ascends R xs → IsSorted R xs
   sorted_from_ascends xs h k d z l = ap (λ n. lt (get_or xs n d) (get_or xs k d)) (add-one k) ∙ adjacent xs h k d (omega arith)
@@ -133,13 +107,13 @@ module _ {X : Type 0} {R : X → X → Ordering} (o : IsTotalOrder R) where
 
   same_classes : (ys zs : List X) → Ascends R ys → Ascends R zs → ((x : X) → class x ys ≡ class x zs) → ys ≡ zs
   same_classes [] [] h k e = refl
-  same_classes [] (z ∷ zs) h k e = never_empty z (class z zs) (e z ∙ class_first z zs)
-  same_classes (y ∷ ys) [] h k e = never_empty y (class y ys) (sym (e y) ∙ class_first y ys)
+  same_classes [] (z ∷ zs) h k e = cc (e z, class_first z zs)
+  same_classes (y ∷ ys) [] h k e = cc (e y, class_first y ys)
   same_classes (y ∷ ys) (z ∷ zs) h k e =
       let a : lt y z ≡ false = lowest y z (class y ys) zs k (sym (class_first y ys) ∙ e y) in
       let b : lt z y ≡ false = lowest z y (class z zs) ys h (sym (class_first z zs) ∙ sym (e z)) in
       let there : class y (z ∷ zs) ≡ z ∷ class y zs = ap (λ b. cond b (z ∷ class y zs) (class y zs)) (not_below y z a b) in
-      let same : y ≡ z = same_first y z (class y ys) (class y zs) (sym (class_first y ys) ∙ e y ∙ there) in
+      let same : y ≡ z = cc (class_first y ys, e y, there) in
       let rest : ys ≡ zs = same_classes ys zs h.1 k.1 (λ x.
       cancel (ties lt x) (ties lt x z) z (class x ys) (class x zs) (ap (λ w. class x (w ∷ ys)) (sym same) ∙ e x)) in
       λ i. same i ∷ rest i
@@ -182,9 +156,7 @@ module _ {X : Type 0} {R : X → X → Ordering} (o : IsTotalOrder R) where
   in_order_ascends (x ∷ xs) = placed_ascends x (in_order R xs) (in_order_ascends xs)
 
   both : (a b : Bool) → not a && not b ≡ true → (a ≡ false) × (b ≡ false)
-  both true b e = absurd (true≢false (sym e))
-  both false true e = absurd (true≢false (sym e))
-  both false false e = (refl, refl)
+  both a b e = (grind (arith, nat_tests), grind (arith, nat_tests))
 
   -- two of one class aren't one below the other
   of_one_class : (x y z : X) → ties lt x y ≡ true → ties lt x z ≡ true → lt z y ≡ false
@@ -197,8 +169,7 @@ module _ {X : Type 0} {R : X → X → Ordering} (o : IsTotalOrder R) where
       → cond t (z ∷ cond s (y ∷ l) l) (cond s (y ∷ l) l) ≡ cond s (y ∷ cond t (z ∷ l) l) (cond t (z ∷ l) l)
   swapped true true y z l h = absurd (true≢false (sym (h refl refl)))
   swapped true false y z l h = refl
-  swapped false true y z l h = refl
-  swapped false false y z l h = refl
+  swapped false t y z l h = refl
 
   placed_stable : (x y : X) (zs : List X) → class x (placed R y zs) ≡ class x (y ∷ zs)
   placed_stable x y [] = refl

@@ -62,8 +62,7 @@ module _ {X Y : Type 0} {R : X → Type 0} {S : Y → Type 0} (size : X → ℕ)
   both_choices : (b c : Bool) → b ≡ c → (x : X) (y : Y) → Like x y → (r : R x) (s : S y) → P x y r s → P x y (cond b r (stop x)) (cond c s (stop' y))
   both_choices true true e x y l r s h = h
   both_choices false false e x y l r s h = stops x y l
-  both_choices true false e x y l r s h = cc
-  both_choices false true e x y l r s h = cc
+  both_choices _ _ e x y l r s h = cc
 
   both_turn : (n : ℕ) (x : X) (y : Y) → Like x y → P x y (turns size stop rule n x) (turns size' stop' rule' n y)
   unfolding below turns

@@ -1,6 +1,6 @@
 -- The meaning of an attribute consists of parts of its written form: a property of the written expressions, literals and keys holds for
 -- those in the meaning.
-use Rattle.std.proofs.Common.{◌≡◌, ℕ, Bool, true, false, cond, List, [], ◌∷◌, map, Option, Some, None, codes, refl, subst, ap, ◌∙◌}
+use Rattle.std.proofs.Common.{◌≡◌, ℕ, Bool, true, false, cond, List, [], ◌∷◌, map, Option, Some, None, codes, refl, subst}
 use Rattle.std.proofs.lemmas.Slice.Eq.{bytes_eq-Decides}
 use Rattle.std.specs.List.{AllByRecursion}
 use Rattle.std.specs.Str.{bytes_eq}
@@ -28,43 +28,31 @@ module _ {A B : Type 0} (view : LeafView A B) (q : Quoted A) (keys : List (KeyAr
     pub short : option_at view (at_key view (codes "short") keys) ≡ Some rules.short
     pub value : of_given (value_of view) (at_key view (codes "value") keys) ≡ Some rules.value
 
-  pub arg_meaning : rules_of view (q ∷ []) keys ≡ Some rules → ArgMeaning
-  arg_meaning h =
-      let flag = bind_back (of_given (bare_of view) (at_key view (codes "flag") keys)) _ rules h in
-      let help = bind_back (of_given (property_of view) (at_key view (codes "help") keys)) _ rules flag.gives in
-      let long = bind_back (option_at view (at_key view (codes "long") keys)) _ rules help.gives in
-      let max = bind_back (of_given (bound_of view) (at_key view (codes "max") keys)) _ rules long.gives in
-      let min = bind_back (of_given (bound_of view) (at_key view (codes "min") keys)) _ rules max.gives in
-      let multiple = bind_back (of_given (bare_of view) (at_key view (codes "multiple") keys)) _ rules min.gives in
-      let pattern = bind_back (of_given (property_of view) (at_key view (codes "pattern") keys)) _ rules multiple.gives in
-      let short = bind_back (option_at view (at_key view (codes "short") keys)) _ rules pattern.gives in
-      let value = bind_back (of_given (value_of view) (at_key view (codes "value") keys)) _ rules short.gives in
-      let found : ArgumentRules A B = record {
-        flag = flag.first;
-        help = help.first;
-        long = long.first;
-        max = max.first;
-        min = min.first;
-        multiple = multiple.first;
-        name = q;
-        pattern =
-            pattern.first;
-        short = short.first;
-        value = value.first;
-      } in
-      let same = some_back found rules value.gives in
-      record {
-        name = ap (λ (r : ArgumentRules A B). r.name) same;
-        flag = flag.is ∙ ap (λ (r : ArgumentRules A B). Some r.flag) same;
-        help = help.is ∙ ap (λ (r : ArgumentRules A B). Some r.help) same;
-        long = long.is ∙ ap (λ (r : ArgumentRules A B). Some r.long) same;
-        max = max.is ∙ ap (λ (r : ArgumentRules A B). Some r.max) same;
-        min = min.is ∙ ap (λ (r : ArgumentRules A B). Some r.min) same;
-        multiple = multiple.is ∙ ap (λ (r : ArgumentRules A B). Some r.multiple) same;
-        pattern = pattern.is ∙ ap (λ (r : ArgumentRules A B). Some r.pattern) same;
-        short = short.is ∙ ap (λ (r : ArgumentRules A B). Some r.short) same;
-        value = value.is ∙ ap (λ (r : ArgumentRules A B). Some r.value) same;
-      }
+pub arg_meaning : {A B : Type 0} (view : LeafView A B) (q : Quoted A) (keys : List (KeyArgument A B)) (rules : ArgumentRules A B) → rules_of view (q ∷ []) keys ≡ Some rules
+    → ArgMeaning view q keys rules
+arg_meaning view q keys rules h =
+    let flag = bind_back (of_given (bare_of view) (at_key view (codes "flag") keys)) _ rules h in
+    let help = bind_back (of_given (property_of view) (at_key view (codes "help") keys)) _ rules flag.gives in
+    let long = bind_back (option_at view (at_key view (codes "long") keys)) _ rules help.gives in
+    let max = bind_back (of_given (bound_of view) (at_key view (codes "max") keys)) _ rules long.gives in
+    let min = bind_back (of_given (bound_of view) (at_key view (codes "min") keys)) _ rules max.gives in
+    let multiple = bind_back (of_given (bare_of view) (at_key view (codes "multiple") keys)) _ rules min.gives in
+    let pattern = bind_back (of_given (property_of view) (at_key view (codes "pattern") keys)) _ rules multiple.gives in
+    let short = bind_back (option_at view (at_key view (codes "short") keys)) _ rules pattern.gives in
+    let value = bind_back (of_given (value_of view) (at_key view (codes "value") keys)) _ rules short.gives in
+    subst (ArgMeaning view q keys) (some_back _ rules value.gives)
+    (record {
+      name = refl;
+      flag = flag.is;
+      help = help.is;
+      long = long.is;
+      max = max.is;
+      min = min.is;
+      multiple = multiple.is;
+      pattern = pattern.is;
+      short = short.is;
+      value = value.is;
+    })
 
 -- an argument, by the conditions on expressions and on keys
 module _ {A B : Type 0} (OfExpr : Expr A B → Type 0) (OfKey : A → Type 0) where

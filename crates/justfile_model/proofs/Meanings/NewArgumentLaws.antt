@@ -13,6 +13,7 @@ use Rattle.justfile_model.specs.Meanings.Rules.{ArgAttributeMinExceedsMax, ArgAt
 use Rattle.justfile_model.specs.Trees.LeafView.{LeafView, or_empty}
 use Rattle.justfile_model.specs.Trees.Tree as tree
 use Rattle.justfile_model.specs.Trees.Tree.{Bound, Expr, OptionName, Quoted}
+use Rattle.justfile_model.proofs.Lists.Binds.{bind_back, some_back}
 use Rattle.justfile_model.proofs.Meanings.NewAttributeSteps.{Agrees, given_is_there, if_there, last_check, last_some, last_step, parts_after, parts_are, refused_first, agreed, one_check, one_some, step, step_check, step_some, then_is, unasked}
 
 -- what holds for all elements holds for the element that is found
@@ -23,6 +24,11 @@ found_has {X} P test (y ∷ ys) x h e = go (test y) e (found_has P test ys x h.1
     go : (b : Bool) → cond b (Some y) (find test ys) ≡ Some x → (find test ys ≡ Some x → P x) → P x
     go true e later = let same : y ≡ x = cc in subst P same h.0
     go false e later = later e
+
+-- the number of a text that is there
+pub text_counts : (o : Option (List ℕ)) (n : ℕ) → count_of (or_empty o) ≡ Some n → of_some (λ text. of_some (λ n. n ∷ []) (count_of text)) o ≡ n ∷ []
+text_counts None n e = cc
+text_counts (Some text) n e = ap (of_some (λ n. n ∷ [])) e
 
 module _ {A B : Type 0} (view : LeafView A B) (at : B) (T : Type 0) where
   -- what is done with the text of a literal
@@ -145,36 +151,20 @@ module _ {A B : Type 0} (view : LeafView A B) (at : B) (T : Type 0) where
       number_is : number_of view at argument keys k ≡ b.number ∷ []
       key_is : b.key ≡ view.place k.key
 
-    counted : (k : KeyArgument A B) (b : Bound B) (o : Option ℕ) → means.◌>>=◌ o (λ n. Some (bound_at k.key n)) ≡ Some b
-        → (of_some (λ n. n ∷ []) o ≡ b.number ∷ []) × (b.key ≡ view.place k.key)
-    counted k b None e = absurd (true≢false (sym (ap is_some e)))
-    counted k b (Some n) e = let same : bound_at k.key n ≡ b = cc in (ap (λ (b : Bound B). b.number ∷ []) same, ap (λ (b : Bound B). b.key) (sym same))
-
-    abbrev text_numbers : List ℕ → List ℕ
-    text_numbers text = of_some (λ n. n ∷ []) (count_of text)
-
-    text_counted : (k : KeyArgument A B) (b : Bound B) (o : Option (List ℕ)) → means.◌>>=◌ (count_of (or_empty o)) (λ n. Some (bound_at k.key n)) ≡ Some b
-        → (of_some text_numbers o ≡ b.number ∷ []) × (b.key ≡ view.place k.key)
-    text_counted k b None e = absurd (true≢false (sym (ap is_some e)))
-    text_counted k b (Some s) e = counted k b (count_of s) e
-
     abbrev literal_numbers : Quoted A → List ℕ
-    literal_numbers q = of_some text_numbers (quoted_text view q)
-
-    literal_counted : (k : KeyArgument A B) (b : Bound B) (o : Option (Quoted A))
-        → means.◌>>=◌ o (λ q. means.◌>>=◌ (count_of (text_of view q)) (λ n. Some (bound_at k.key n))) ≡ Some b
-        → (of_some literal_numbers o ≡ b.number ∷ []) × (b.key ≡ view.place k.key)
-    literal_counted k b None e = absurd (true≢false (sym (ap is_some e)))
-    literal_counted k b (Some q) e = text_counted k b (quoted_text view q) e
-
-    value_counted : (k : KeyArgument A B) (b : Bound B) (o : Option (Expr A B))
-        → means.◌>>=◌ o (λ value. means.◌>>=◌ (quoted value) (λ q. means.◌>>=◌ (count_of (text_of view q)) (λ n. Some (bound_at k.key n)))) ≡ Some b
-        → (of_some (λ value. of_some literal_numbers (quoted value)) o ≡ b.number ∷ []) × (b.key ≡ view.place k.key)
-    value_counted k b None e = absurd (true≢false (sym (ap is_some e)))
-    value_counted k b (Some value) e = literal_counted k b (quoted value) e
+    literal_numbers q = of_some (λ text. of_some (λ n. n ∷ []) (count_of text)) (quoted_text view q)
 
     numbered : (k : KeyArgument A B) (b : Bound B) → bound_of view k ≡ Some b → Numbered k b
-    numbered k b e = let n = value_counted k b k.value e in record { number_is = n.0; key_is = n.1 }
+    numbered k b e =
+        let v = bind_back k.value _ b e in
+        let q = bind_back (quoted v.first) _ b v.gives in
+        let n = bind_back (count_of (text_of view q.first)) _ b q.gives in
+        let same = some_back (bound_at k.key n.first) b n.gives in
+        record {
+          number_is = ap (of_some (λ value. of_some literal_numbers (quoted value))) v.is ∙ ap (of_some literal_numbers) q.is
+              ∙ text_counts (quoted_text view q.first) n.first n.is ∙ ap (λ (b : Bound B). b.number ∷ []) same;
+          key_is = ap (λ (b : Bound B). b.key) (sym same);
+        }
 
     abbrev exceeds : (n m : ℕ) → B → List (Broken B)
     exceeds n m key = broken_if (nat_lt m n) (ArgAttributeMinExceedsMax n m) key
@@ -193,11 +183,9 @@ module _ {A B : Type 0} (view : LeafView A B) (at : B) (T : Type 0) where
       meant : bound_of view k ≡ Some one
 
     given_one : (k : KeyArgument A B) (o : Option (Bound B)) → of_given (bound_of view) (Some k) ≡ Some o → GivenOne k o
-    given_one k o e = go (bound_of view k) refl e
-      where
-        go : (p : Option (Bound B)) → bound_of view k ≡ p → means.◌>>=◌ p (λ b. Some (Some b)) ≡ Some o → GivenOne k o
-        go None h e = absurd (true≢false (sym (ap is_some e)))
-        go (Some b) h e = let same : Some b ≡ o = cc in record { one = b; is = sym same; meant = h }
+    given_one k o e =
+        let g = bind_back (bound_of view k) (λ b. Some (Some b)) o e in
+        record { one = g.first; is = sym (some_back (Some g.first) o g.gives); meant = g.is }
 
     bounds_as_meant : (low high : Option (KeyArgument A B)) (min max : Option (Bound B))
         → of_given (bound_of view) low ≡ Some min → of_given (bound_of view) high ≡ Some max
@@ -223,11 +211,9 @@ module _ {A B : Type 0} (view : LeafView A B) (at : B) (T : Type 0) where
 
     named_is : (key : A) (v : Option (Expr A B)) (o : OptionName A B) → option_named view key v ≡ Some o → is_option view at argument o ≡ true
     named_is key None o e = let same : tree.OwnName (view.place key) ≡ o = cc in ap (is_option view at argument) (sym same)
-    named_is key (Some value) o e = go (quoted value) e
-      where
-        go : (q : Option (Quoted A)) → means.◌>>=◌ q (λ name. Some (tree.Named name)) ≡ Some o → is_option view at argument o ≡ true
-        go None e = absurd (true≢false (sym (ap is_some e)))
-        go (Some q) e = let same : tree.Named q ≡ o = cc in ap (is_option view at argument) (sym same)
+    named_is key (Some value) o e =
+        let q = bind_back (quoted value) (λ name. Some (tree.Named name)) o e in
+        ap (is_option view at argument) (sym (some_back (tree.Named q.first) o q.gives))
 
     option_is : (k : Option (KeyArgument A B)) (o : OptionName A B) → option_at view k ≡ Some o → is_option view at argument o ≡ is_some k
     option_is None o e = let same : tree.NoOption ≡ o = cc in ap (is_option view at argument) (sym same)

@@ -127,10 +127,9 @@ module _ {A B : Type 0} (view : LeafView A B) (at : B) (T : Type 0) where
 
     env_as_meant : (placed : List (PositionalArgument A B)) → IsCounted (length placed) 2 (Some 2)
         → Agrees T (from_expressions view at kinds.Env placed keys) (attribute_of view kinds.Env placed keys) (unknown_broken view at kinds.Env keys)
-    env_as_meant [] counted = absurd (true≢false counted)
-    env_as_meant (p ∷ []) counted = absurd (true≢false counted)
     env_as_meant (p ∷ q ∷ []) counted = of_expressions_as_meant kinds.Env (p ∷ q ∷ []) _ refl
     env_as_meant (p ∷ q ∷ r ∷ rs) counted = absurd (too_many (nat_lt (length (p ∷ q ∷ r ∷ rs)) 2) 2 (length (p ∷ q ∷ r ∷ rs)) (omega arith) counted)
+    env_as_meant _ counted = absurd (true≢false counted)
 
     -- ---- any attribute
 

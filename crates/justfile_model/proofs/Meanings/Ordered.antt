@@ -6,7 +6,7 @@ use Rattle.std.specs.Option.{option_map}
 use Rattle.justfile_model.specs.Meanings.AttributeRules.{of_some}
 use Rattle.justfile_model.specs.Grammars.Docs.{Nothing, documented}
 use Rattle.justfile_model.specs.Grammars.Features.{ConstructFeatures, over_features, over_noted}
-use Rattle.justfile_model.specs.Grammars.Files.{content_bindings, item_bindings, bindings, content_recipes, item_recipes, recipes, ordered_item, if_both, with_entries, undocumented, ordered, sets_doc, entries_features, construct_features, all_features, item_broken, broken}
+use Rattle.justfile_model.specs.Grammars.Files.{content_bindings, bindings, content_recipes, recipes, ordered_item, if_both, with_entries, undocumented, ordered, sets_doc, entries_features, construct_features, all_features, item_broken, broken}
 use Rattle.justfile_model.specs.LiteralTexts.Literals.{Expansions}
 use Rattle.justfile_model.specs.Meanings.Meaning.{entries_of}
 use Rattle.justfile_model.specs.Meanings.Rules.{over_broken}
@@ -15,7 +15,7 @@ use Rattle.justfile_model.specs.Lexing.Tok.{Tok}
 use Rattle.justfile_model.specs.Grammars.Conditions.{VersionNumbers}
 use Rattle.justfile_model.specs.Trees.Tree.{Assignment, Comment, Construct, Content, Dependency, DependencyArgument, Entry, Header, Newline, OrderedItem, Recipe, Shape, Tree, WrittenAttribute, WrittenItem, WrittenTree, item_shape_of, lexeme, nothing, over_content, over_dependency, over_dependency_argument, over_entry, over_header, over_item, over_line, over_written_attribute, shape_of, starless, starless_argument, starless_dependency, starless_header, written_shape_of}
 use Rattle.justfile_model.proofs.Lists.Binds.{never_some, some_back}
-use Rattle.justfile_model.proofs.Printed.DocsKept.{bindings_count, documented_counts, documented_shape, recipes_count}
+use Rattle.justfile_model.proofs.Printed.DocsKept.{CountsConstructs, bindings_count, documented_counts, documented_shape, recipes_count}
 use Rattle.justfile_model.proofs.Derivations.Kinded.{KindedWritten}
 use Rattle.justfile_model.proofs.Derivations.KindedFiles.{KindedItem, KindedItems}
 use Rattle.justfile_model.proofs.Lists.Mapped.{map_both, option_both}
@@ -84,41 +84,42 @@ starless_recipes : {A B C S : Type 0} (c : Content A B C S) → content_recipes 
 starless_recipes (Assignment parts) = refl
 starless_recipes _ = refl
 
--- items that have a meaning
+-- what counts the constructs of a meaning counts those that are written, if it does so at each construct
+module _ {A B C S Z : Type 0} (view : LeafView A B) (meant : List (OrderedItem A B C) → Z) (d : CountsConstructs meant) (written : List (WrittenItem A B C S) → Z)
+    (none : meant [] ≡ written []) (newline : (is : List (WrittenItem A B C S)) (js : List (OrderedItem A B C)) → meant js ≡ written is → meant (Newline ∷ js) ≡ written (Newline ∷ is))
+    (comment : (text : List ℕ) (is : List (WrittenItem A B C S)) (js : List (OrderedItem A B C)) → meant js ≡ written is
+    → meant (Comment text ∷ js) ≡ written (Comment text ∷ is))
+    (construct : (ws : List (WrittenAttribute A B)) (entries : List (Entry A B)) (content : Content A B C S) (is : List (WrittenItem A B C S)) (js : List (OrderedItem A B C))
+    → entries_of view ws ≡ Some entries → meant js ≡ written is → meant (Construct entries (starless content) ∷ js) ≡ written (Construct ws content ∷ is)) where
+  first_counts : (i : WrittenItem A B C S) (j : OrderedItem A B C) (is : List (WrittenItem A B C S)) (js : List (OrderedItem A B C)) → ordered_item view i ≡ Some j
+      → meant js ≡ written is → meant (j ∷ js) ≡ written (i ∷ is)
+  first_counts Newline j is js h e = ap (λ j. meant (j ∷ js)) (sym (some_back Newline j h)) ∙ newline is js e
+  first_counts (Comment text) j is js h e = ap (λ j. meant (j ∷ js)) (sym (some_back (Comment text) j h)) ∙ comment text is js e
+  first_counts (Construct ws content) j is js h e =
+      let m = construct_meant view ws content j h in
+      ap (λ j. meant (j ∷ js)) m.item_is ∙ construct ws m.entries content is js m.means e
+
+  undocumented_counts : (is : List (WrittenItem A B C S)) (all : List (OrderedItem A B C)) → undocumented view is ≡ Some all → meant all ≡ written is
+  undocumented_counts [] all h = ap meant (sym (some_back [] all h)) ∙ none
+  undocumented_counts (i ∷ is) all h =
+      let m = meanings_of view i is all h in
+      ap meant m.all_are ∙ first_counts i m.first is m.others m.first_is (undocumented_counts is m.others m.others_are)
+
+  pub ordered_counts : (is : List (WrittenItem A B C S)) (all : List (OrderedItem A B C)) → ordered view is ≡ Some all → meant all ≡ written is
+  ordered_counts is all h =
+      let u = undocumented_of view is all h in
+      ap meant u.all_are ∙ documented_counts meant d sets_doc Nothing u.items ∙ undocumented_counts is u.items u.items_are
+
 module _ {A B C S : Type 0} (view : LeafView A B) where
-  item_bindings_kept : (i : WrittenItem A B C S) (j : OrderedItem A B C) → ordered_item view i ≡ Some j → item_bindings j ≡ item_bindings i
-  item_bindings_kept Newline j h = ap item_bindings (sym (some_back Newline j h))
-  item_bindings_kept (Comment text) j h = ap item_bindings (sym (some_back (Comment text) j h))
-  item_bindings_kept (Construct ws content) j h = ap item_bindings (construct_meant view ws content j h).item_is ∙ starless_bindings content
-
-  item_recipes_kept : (i : WrittenItem A B C S) (j : OrderedItem A B C) → ordered_item view i ≡ Some j → item_recipes j ≡ item_recipes i
-  item_recipes_kept Newline j h = ap item_recipes (sym (some_back Newline j h))
-  item_recipes_kept (Comment text) j h = ap item_recipes (sym (some_back (Comment text) j h))
-  item_recipes_kept (Construct ws content) j h = ap item_recipes (construct_meant view ws content j h).item_is ∙ starless_recipes content
-
-  undocumented_bindings : (items : List (WrittenItem A B C S)) (all : List (OrderedItem A B C)) → undocumented view items ≡ Some all
-      → bindings all ≡ bindings items
-  undocumented_bindings [] all h = ap bindings (sym (some_back [] all h))
-  undocumented_bindings (i ∷ items) all h =
-      let m = meanings_of view i items all h in
-      ap bindings m.all_are ∙ (λ j. item_bindings_kept i m.first m.first_is j + undocumented_bindings items m.others m.others_are j)
-
   pub ordered_bindings : (items : List (WrittenItem A B C S)) (all : List (OrderedItem A B C)) → ordered view items ≡ Some all → bindings all ≡ bindings items
-  ordered_bindings items all h =
-      let d = undocumented_of view items all h in
-      ap bindings d.all_are ∙ documented_counts bindings bindings_count sets_doc Nothing d.items ∙ undocumented_bindings items d.items d.items_are
-
-  undocumented_recipes : (items : List (WrittenItem A B C S)) (all : List (OrderedItem A B C)) → undocumented view items ≡ Some all
-      → recipes all ≡ recipes items
-  undocumented_recipes [] all h = ap recipes (sym (some_back [] all h))
-  undocumented_recipes (i ∷ items) all h =
-      let m = meanings_of view i items all h in
-      ap recipes m.all_are ∙ (λ j. item_recipes_kept i m.first m.first_is j + undocumented_recipes items m.others m.others_are j)
+  ordered_bindings =
+      ordered_counts view bindings bindings_count bindings refl (λ is js e i. 0 + e i) (λ text is js e i. 0 + e i)
+      (λ ws entries content is js m e i. starless_bindings content i + e i)
 
   pub ordered_recipes : (items : List (WrittenItem A B C S)) (all : List (OrderedItem A B C)) → ordered view items ≡ Some all → recipes all ≡ recipes items
-  ordered_recipes items all h =
-      let d = undocumented_of view items all h in
-      ap recipes d.all_are ∙ documented_counts recipes recipes_count sets_doc Nothing d.items ∙ undocumented_recipes items d.items d.items_are
+  ordered_recipes =
+      ordered_counts view recipes recipes_count recipes refl (λ is js e i. 0 + e i) (λ text is js e i. 0 + e i)
+      (λ ws entries content is js m e i. starless_recipes content i + e i)
 
 -- ---- over other leaves
 
@@ -231,12 +232,11 @@ module _ (expander : Expansions) where
   pub all_features_seen : (written : WrittenTree) (fs : List (ConstructFeatures Tok)) → KindedItems written
       → all_features lexemes (written_shape_of written) (map (over_features nothing) fs) ≡ map (over_noted nothing) (all_features tokens written fs)
   all_features_seen [] fs k = refl
-  all_features_seen (Newline ∷ items) fs k = all_features_seen items fs k.1
-  all_features_seen (Comment text ∷ items) fs k = all_features_seen items fs k.1
   all_features_seen (Construct ws content ∷ items) [] k = refl
   all_features_seen (Construct ws content ∷ items) (f ∷ fs) k =
       both_over (over_noted nothing) (construct_features tokens ws content f) (all_features tokens items fs) _ _
       (construct_features_seen ws content f k.0) (all_features_seen items fs k.1)
+  all_features_seen (i ∷ items) fs k = all_features_seen items fs k.1
 
   -- both break the same rules
 

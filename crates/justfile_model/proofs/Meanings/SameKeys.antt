@@ -9,7 +9,7 @@ use Rattle.std.specs.declared.cmp.Ordering.{Ordering}
 use Rattle.std.specs.declared.cmp.Ordering.TheVariants.{Less, Equal, Greater}
 use Rattle.std.proofs.lemmas.Cmp.{tied_itself, upto}
 use Rattle.std.proofs.lemmas.List.{append-nil, append_assoc}
-use Rattle.std.proofs.lemmas.List.Elements.{All-contains, All-contains_itself, All-from_recursion, Contains-append_right, Contains-push_cases, recursion_from_All}
+use Rattle.std.proofs.lemmas.List.Elements.{All-contains, All-contains_itself, All-filter, filter_passes, All-from_recursion, Contains-append_right, Contains-push_cases, recursion_from_All}
 use Rattle.std.proofs.lemmas.Map.Lookups.{exact_bytes}
 use Rattle.std.proofs.lemmas.Slice.Eq.{bytes_eq-Decides}
 use Rattle.justfile_vocabulary.specs.declared.attribute_kind.AttributeKind.{AttributeKind}
@@ -41,18 +41,6 @@ at_element : {X : Type 0} (P : X → Type 0) (xs : List X) (x : X) → AllByRecu
 at_element P xs x h c = All-contains P xs x (All-from_recursion P xs h) c
 
 module _ {X : Type 0} (test : X → Bool) where
-  -- what is kept passes, and was there
-  kept_passes : (P : X → Type 0) (xs : List X) → AllByRecursion P xs → AllByRecursion (λ x. P x × (test x ≡ true)) (filter test xs)
-  kept_passes P [] h = tt
-  kept_passes P (x ∷ xs) h = go (test x) refl (kept_passes P xs h.1)
-    where
-      Q : X → Type 0
-      Q y = P y × (test y ≡ true)
-
-      go : (b : Bool) → test x ≡ b → AllByRecursion Q (filter test xs) → AllByRecursion Q (cond b (x ∷ filter test xs) (filter test xs))
-      go true e k = ((h.0, e), k)
-      go false e k = k
-
   -- what passes is kept
   passing_kept : (xs : List X) → AllByRecursion (λ x. test x ≡ true → Contains (filter test xs) x) xs
   passing_kept [] = tt
@@ -69,7 +57,10 @@ module _ {X : Type 0} (test : X → Bool) where
       go false e k = (λ t. absurd (true≢false (sym t ∙ e)), k)
 
   kept_there : (xs : List X) (x : X) → Contains (filter test xs) x → Contains xs x × (test x ≡ true)
-  kept_there xs x c = at_element (λ x. Contains xs x × (test x ≡ true)) (filter test xs) x (kept_passes (Contains xs) xs (each_in xs)) c
+  kept_there xs x c = (
+    All-contains (Contains xs) (filter test xs) x (All-filter test (Contains xs) xs (All-contains_itself xs)) c,
+    All-contains (λ x. test x ≡ true) (filter test xs) x (filter_passes test xs) c,
+  )
 
   there_kept : (xs : List X) (x : X) → Contains xs x → test x ≡ true → Contains (filter test xs) x
   there_kept xs x c t = at_element (λ x. test x ≡ true → Contains (filter test xs) x) xs x (passing_kept xs) c t

@@ -150,13 +150,12 @@ module _ {A B : Type 0} (view : LeafView A B) (cooked : Literal A → Option (Li
     broken_alike : {C : Type 0} (current : VersionNumbers) (items : List (WrittenItem A B C B)) → AllByRecursion Agreed (all_literals items)
         → Each (AlikeBroken same.position) (broken_of current view items) (broken_of current other items)
     broken_alike current [] h = a.nil
-    broken_alike current (tree.Newline ∷ items) h = broken_alike current items h
-    broken_alike current (tree.Comment text ∷ items) h = broken_alike current items h
     broken_alike current (tree.Construct ws c ∷ items) h =
         let p = parts Agreed (written_literals ws ++ content_literals c) (all_literals items) h in
         let q = parts Agreed (written_literals ws) (content_literals c) p.0 in
         each_both (construct_broken_alike same view other sees current (written_same ws q.0) (content_same c q.1) (means_alike ws q.0))
         (broken_alike current items p.1)
+    broken_alike current (i ∷ items) h = broken_alike current items h
 
 module _ {A B : Type 0} (view : LeafView A B) (cooked : Literal A → Option (List ℕ)) (content : Literal A → LiteralContent) (seen : SeeSame view cooked content) where
   -- the first view is alike to itself, and to the other: so both mean the same

@@ -1,10 +1,10 @@
 -- The rules that recipes break with other projections of their leaves, but the same view: the same rules, with the other projections; and
 -- the features of their attributes.
-use Rattle.std.proofs.Common.{◌≡◌, ◌∙◌, List, [], ◌∷◌, ◌++◌, map, Option, Some, None, refl, sym, ap, subst}
+use Rattle.std.proofs.Common.{◌≡◌, ◌∙◌, List, [], ◌∷◌, map, Option, Some, None, refl, sym, ap, subst}
 use Rattle.std.specs.List.{cons_option, filter_map, flat_map}
+use Rattle.std.proofs.lemmas.List.{map-append}
 use Rattle.std.specs.Option.{option_map}
 use Rattle.justfile_vocabulary.specs.declared.list_feature.ListFeature.{ListFeature}
-use Rattle.justfile_vocabulary.specs.declared.list_feature.ListFeature.TheVariants as features
 use Rattle.justfile_model.specs.Meanings.AttributeRules.{arg_rules, rules_in}
 use Rattle.justfile_model.specs.Grammars.Conditions.{VersionNumbers}
 use Rattle.justfile_model.specs.Meanings.ConstructRules.{construct_broken}
@@ -21,7 +21,6 @@ use Rattle.justfile_model.proofs.Relations.AlikeAttributes.{AlikeEntry}
 use Rattle.justfile_model.proofs.Relations.AlikeConstructRules.{construct_broken_alike}
 use Rattle.justfile_model.proofs.Relations.Graph.{SameView, broken_graph, content_graph, entries_graph, graph, sees_graph, written_graph}
 use Rattle.justfile_model.proofs.Relations.Related.{Each}
-use Rattle.justfile_model.proofs.Meanings.SameViewRules.{both_over}
 
 -- ---- options and lists
 
@@ -54,20 +53,8 @@ module _ {A B C D : Type 0} (f : A → C) (g : B → D) where
   noted_at_over feature None = refl
   noted_at_over feature (Some at) = refl
 
-  bound_noted_over : (feature : ListFeature) (b : Option (Bound B))
-      → noted_at feature (bound_place (option_map (over_bound f g) b)) ≡ map (over_noted g) (noted_at feature (bound_place b))
-  bound_noted_over feature b = ap (noted_at feature) (bound_place_over b) ∙ noted_at_over feature (bound_place b)
-
   rules_features_over : (a : ArgumentRules A B) → rules_features (over_rules f g a) ≡ map (over_noted g) (rules_features a)
-  rules_features_over a =
-      let flag = noted_at features.Flag a.flag in
-      let multiple = noted_at features.Multiple a.multiple in
-      let max = noted_at features.ArgMax (bound_place a.max) in
-      both_over (over_noted g) (flag ++ multiple ++ max) (noted_at features.ArgMin (bound_place a.min)) _ _
-      (both_over (over_noted g) (flag ++ multiple) max _ _
-      (both_over (over_noted g) flag multiple _ _ (noted_at_over features.Flag a.flag) (noted_at_over features.Multiple a.multiple))
-      (bound_noted_over features.ArgMax a.max))
-      (bound_noted_over features.ArgMin a.min)
+  rules_features_over a = simp (map-append, bound_place_over, noted_at_over)
 
   pub entries_features_over : {Z S Z' S' : Type 0} (h : Z → Z') (k : S → S') (content : Content A B Z S) (es : List (Entry A B))
       → entries_features (over_content f g h k content) (map (over_entry f g) es) ≡ map (over_noted g) (entries_features content es)

@@ -14,6 +14,29 @@ use Rattle.justfile_model.specs.Printed.PrintedAttributes.{after_doc, docs_writt
 use Rattle.justfile_model.specs.Trees.Tree.{Assignment, Comment, Construct, Content, Entry, Item, Module, Newline, OrderedItem, Recipe, Tree, lexeme, nothing, over_content, over_entry, over_item, shape_of}
 use Rattle.justfile_model.proofs.Meanings.SameViewRules.{kind_over}
 
+-- ---- a comment before items
+
+-- it stays, or is the doc of the construct after its line end
+module _ {A B C S D : Type 0} (has_doc : D → Bool) (before : Before) (comment : List ℕ) where
+  pub taken_cases : (P : List (Item A B C S D) → Type 0) (items : List (Item A B C S D)) → P (Comment comment ∷ items)
+      → ((attributes : D) (content : Content A B C S) (more : List (Item A B C S D)) (doc : List ℕ) → items ≡ Newline ∷ Construct attributes content ∷ more
+      → doc_in before comment ≡ Some doc → can_take_doc has_doc attributes content ≡ true → P (Construct attributes (redocumented (Some doc) content) ∷ more))
+      → P (taken has_doc before (Comment comment) items)
+  taken_cases P (Newline ∷ i ∷ items) stays takes = by (doc_in before comment) i refl stays (λ attributes content. takes attributes content items)
+    where
+      by : (o : Option (List ℕ)) (i : Item A B C S D) → doc_in before comment ≡ o → P (Comment comment ∷ Newline ∷ i ∷ items)
+          → ((attributes : D) (content : Content A B C S) (doc : List ℕ) → ◌≡◌ {A = List (Item A B C S D)} (Newline ∷ i ∷ items) (Newline ∷ Construct attributes content ∷ items)
+          → doc_in before comment ≡ Some doc → can_take_doc has_doc attributes content ≡ true → P (Construct attributes (redocumented (Some doc) content) ∷ items))
+          → P (comment_taken has_doc comment i items o)
+      by (Some doc) (Construct attributes content) e stays takes = by_test (can_take_doc has_doc attributes content) refl
+        where
+          by_test : (b : Bool) → can_take_doc has_doc attributes content ≡ b
+              → P (doc_or_comment has_doc comment (Construct attributes content) items (cond b (Some (Construct attributes (redocumented (Some doc) content))) None))
+          by_test true w = takes attributes content doc refl e w
+          by_test false w = stays
+      by o i e stays takes = stays
+  taken_cases P _ stays takes = stays
+
 -- ---- what counts constructs
 
 -- it looks at constructs alone, and not at their docs
@@ -33,23 +56,9 @@ module _ {A B C S D Z : Type 0} (count : List (Item A B C S D) → Z) (c : Count
 
   module _ (has_doc : D → Bool) where
     taken_counts : (before : Before) (comment : List ℕ) (items : List (Item A B C S D)) → count (taken has_doc before (Comment comment) items) ≡ count items
-    taken_counts before comment [] = c.comment comment []
-    taken_counts before comment (Newline ∷ []) = c.comment comment (Newline ∷ [])
-    taken_counts before comment (Newline ∷ i ∷ items) = by i (doc_in before comment)
-      where
-        by : (i : Item A B C S D) (o : Option (List ℕ)) → count (comment_taken has_doc comment i items o) ≡ count (Newline ∷ i ∷ items)
-        by i None = c.comment comment (Newline ∷ i ∷ items)
-        by Newline (Some doc) = c.comment comment (Newline ∷ Newline ∷ items)
-        by (Comment text) (Some doc) = c.comment comment (Newline ∷ Comment text ∷ items)
-        by (Construct attributes content) (Some doc) = by_test (can_take_doc has_doc attributes content)
-          where
-            by_test : (b : Bool)
-                → count (doc_or_comment has_doc comment (Construct attributes content) items (cond b (Some (Construct attributes (redocumented (Some doc) content))) None))
-                ≡ count (Newline ∷ Construct attributes content ∷ items)
-            by_test true = redocumented_counts attributes content (Some doc) items items refl ∙ sym (c.newline (Construct attributes content ∷ items))
-            by_test false = c.comment comment (Newline ∷ Construct attributes content ∷ items)
-    taken_counts before comment (Comment text ∷ items) = c.comment comment (Comment text ∷ items)
-    taken_counts before comment (Construct attributes content ∷ items) = c.comment comment (Construct attributes content ∷ items)
+    taken_counts before comment items =
+        taken_cases has_doc before comment (λ l. count l ≡ count items) items (c.comment comment items) (λ attributes content more doc is e w.
+        redocumented_counts attributes content (Some doc) more more refl ∙ sym (c.newline (Construct attributes content ∷ more)) ∙ ap count (sym is))
 
     pub documented_counts : (before : Before) (items : List (Item A B C S D)) → count (documented has_doc before items) ≡ count items
     documented_counts before [] = refl
@@ -157,19 +166,15 @@ module _ {A B C S D A' B' C' S' D' : Type 0} (f : A → A') (g : B → B') (h : 
   comment_over : (comment : List ℕ) (i : Item A B C S D) (items : List (Item A B C S D)) (o : Option (List ℕ))
       → comment_taken other comment (over i) (map over items) o ≡ map over (comment_taken has_doc comment i items o)
   comment_over comment i items None = refl
-  comment_over comment Newline items (Some doc) = refl
-  comment_over comment (Comment text) items (Some doc) = refl
   comment_over comment (Construct attributes content) items (Some doc) =
       ap (doc_or_comment other comment (over (Construct attributes content)) (map over items)) (with_doc_over doc attributes content)
       ∙ doc_or_over comment (Construct attributes content) items (item_with_doc has_doc doc (Construct attributes content))
+  comment_over comment _ items (Some doc) = refl
 
   taken_over : (before : Before) (comment : List ℕ) (items : List (Item A B C S D))
       → taken other before (Comment comment) (map over items) ≡ map over (taken has_doc before (Comment comment) items)
-  taken_over before comment [] = refl
-  taken_over before comment (Newline ∷ []) = refl
   taken_over before comment (Newline ∷ i ∷ items) = comment_over comment i items (doc_in before comment)
-  taken_over before comment (Comment text ∷ items) = refl
-  taken_over before comment (Construct attributes content ∷ items) = refl
+  taken_over before comment _ = refl
 
   pub documented_over : (before : Before) (items : List (Item A B C S D))
       → documented other before (map over items) ≡ map over (documented has_doc before items)

@@ -41,27 +41,19 @@ bare_text entries content indentation =
 after_any : (i : ShapeItem) (o : Option (List ℕ)) (entries : List (Entry (List ℕ) (Unit {0}))) (content : ShapeContent) (items more : Shape)
     → item_end i (after_doc o (Construct entries content ∷ items)) ≡ item_end i (Construct entries content ∷ more)
 after_any Newline o entries content items more = refl
-after_any (Comment text) None entries content items more = refl
-after_any (Comment text) (Some doc) entries content items more = refl
-after_any (Construct es c) None entries content items more = refl
-after_any (Construct es c) (Some doc) entries content items more = refl
+after_any _ None entries content items more = refl
+after_any _ (Some doc) entries content items more = refl
 
 any_end : (i : ShapeItem) (es : List (Entry (List ℕ) (Unit {0}))) (c d : ShapeContent) (items : Shape)
     → item_end i (Construct es c ∷ items) ≡ item_end i (Construct es d ∷ items)
 any_end Newline es c d items = refl
-any_end (Comment text) es c d items = refl
-any_end (Construct fs e) es c d items = refl
+any_end _ es c d items = refl
 
 end_written : (i : ShapeItem) (items : Shape) → item_end i (docs_written items) ≡ item_end i items
-end_written i [] = refl
-end_written Newline (Newline ∷ items) = refl
-end_written (Comment text) (Newline ∷ items) = refl
-end_written (Construct es c) (Newline ∷ items) = refl
-end_written Newline (Comment t ∷ items) = refl
-end_written (Comment text) (Comment t ∷ items) = refl
-end_written (Construct es c) (Comment t ∷ items) = refl
 end_written i (Construct entries content ∷ items) =
     after_any i (shown_doc entries content) entries (redocumented None content) (docs_written items) items ∙ any_end i entries (redocumented None content) content items
+end_written Newline _ = refl
+end_written _ _ = refl
 
 -- ---- the text
 
@@ -74,10 +66,8 @@ pieces (x ∷ a) n e c z t = ap (λ l. x ∷ l) (pieces a n e c z t)
 module _ (indentation : List ℕ) where
   bare_end : (entries : List (Entry (List ℕ) (Unit {0}))) (content : ShapeContent) (items : Shape)
       → item_end (Construct entries (redocumented None content)) items ≡ item_end (Construct entries content) items
-  bare_end entries content [] = refl
   bare_end entries content (Newline ∷ items) = refl
-  bare_end entries content (Comment t ∷ items) = refl
-  bare_end entries content (Construct es c ∷ items) = refl
+  bare_end entries content _ = refl
 
   -- a construct without its doc, before items with theirs as comments
   bare_construct : (entries : List (Entry (List ℕ) (Unit {0}))) (content : ShapeContent) (items : Shape)

@@ -62,18 +62,16 @@ module _ {A B C S A' B' C' S' : Type 0} (f : A → A') (g : B → B') (h : C →
 -- how a tree is indented is seen of its shape
 pub indentation_shape : (t : Tree) → indentation_of (shape_of t) ≡ option_map lexeme (indentation_of t)
 indentation_shape [] = refl
-indentation_shape (Newline ∷ t) = indentation_shape t
-indentation_shape (Comment text ∷ t) = indentation_shape t
 indentation_shape (Construct entries content ∷ t) =
     (λ i. or_else (cond (enabled_over lexeme nothing entries i) (content_over lexeme nothing nothing (λ star. star) content i) None) (indentation_shape t i))
     ∙ first_over lexeme (is_enabled entries) (indentation_in content) (indentation_of t)
+indentation_shape (i ∷ t) = indentation_shape t
 
 -- ---- the normal form
 
 more_indented : (i : ShapeItem) (s r : Shape) → indentation_of s ≡ indentation_of r → indentation_of (i ∷ s) ≡ indentation_of (i ∷ r)
-more_indented Newline s r e = e
-more_indented (Comment text) s r e = e
 more_indented (Construct entries content) s r e = ap (or_else (cond (is_enabled entries) (indentation_in content) None)) e
+more_indented _ s r e = e
 
 pub indentation_normal : (s : Shape) → indentation_of (normal s) ≡ indentation_of s
 indentation_normal = normal_seen indentation_of (λ s. refl) more_indented
@@ -116,7 +114,6 @@ module _ (current : VersionNumbers) (expander : Expansions) where
 
   content_valid : (content : Content (List ℕ) (Unit {0}) (Unit {0}) (Unit {0})) → form_broken current (sees expander) content ≡ []
       → HaveTexts expander (content_literals content) → IfSome (indentation_in content) IsIndentationLiteral
-  content_valid (tree.Alias parts) unbroken texts = tt
   content_valid (tree.Setting parts) unbroken texts = setting_valid parts.keyword parts.name parts.value unbroken texts
   content_valid _ unbroken texts = tt
 
@@ -128,8 +125,6 @@ module _ (current : VersionNumbers) (expander : Expansions) where
 
   items_valid : (s : Shape) → AllPrintAgain current expander s → IfSome (indentation_of s) IsIndentationLiteral
   items_valid [] h = tt
-  items_valid (Newline ∷ s) h = items_valid s h.1
-  items_valid (Comment text ∷ s) h = items_valid s h.1
   items_valid (Construct entries content ∷ s) h =
       let ws = rewritten_entries entries in
       let unbroken =
@@ -137,6 +132,7 @@ module _ (current : VersionNumbers) (expander : Expansions) where
       (form_broken current (sees expander) content) h.0.unbroken in
       let texts = parts (HasText expander) (written_literals ws) (content_literals content) h.0.texts in
       first_valid (is_enabled entries) (indentation_in content) (indentation_of s) (content_valid content unbroken.1 texts.1) (items_valid s h.1)
+  items_valid (i ∷ s) h = items_valid s h.1
 
 -- the literal that sets the indentation of a shape that derives means an indentation
 pub indentation_valid : (C : Conditions) (ts : List SignificantToken) (s : Shape) (fs : List (Noted (Unit {0}))) → ShapeDerives C ts s fs

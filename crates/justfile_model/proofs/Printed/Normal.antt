@@ -1,6 +1,6 @@
 -- Normalizing a shape twice is the same as once. It keeps the literals, the bindings, the recipes, and whether the shape is printable.
 use Rattle.std.proofs.Common.{◌≡◌, [], ◌∷◌, ◌+◌, ◌++◌, ◌&&◌, refl, sym, ap, ◌∙◌, arith}
-use Rattle.justfile_model.specs.Trees.Tree.{Comment, Construct, Newline, OrderedItem, Shape}
+use Rattle.justfile_model.specs.Trees.Tree.{Comment, Newline, OrderedItem, Shape}
 use Rattle.justfile_model.specs.Grammars.Files.{entries_literals, item_bindings, item_literals, item_recipes, literals, bindings, recipes}
 use Rattle.justfile_model.specs.Printed.NormalShape.{after_newline, normal_rest, normal}
 use Rattle.justfile_model.specs.Printed.Printing.{printable_item, printable}
@@ -15,8 +15,7 @@ after_twice _ h = ap after_newline h
 rest_twice : (s : Shape) → normal_rest (normal_rest s) ≡ normal_rest s
 rest_twice [] = refl
 rest_twice (Newline ∷ s) = after_twice (normal_rest s) (rest_twice s)
-rest_twice (Comment text ∷ s) = ap (λ (r : Shape). Comment text ∷ r) (rest_twice s)
-rest_twice (Construct attributes content ∷ s) = ap (λ (r : Shape). Construct attributes content ∷ r) (rest_twice s)
+rest_twice (i ∷ s) = ap (λ (r : Shape). i ∷ r) (rest_twice s)
 
 normal_of : (r : Shape) → normal_rest r ≡ r → normal r ≡ r
 normal_of [] h = refl
@@ -30,19 +29,14 @@ normal_twice (i ∷ s) = normal_of (normal_rest (i ∷ s)) (rest_twice (i ∷ s)
 module _ {Z : Type 0} (seen : Shape → Z) (newline : (s : Shape) → seen (Newline ∷ s) ≡ seen s)
     (first : (i : OrderedItem _ _ _) (s r : Shape) → seen s ≡ seen r → seen (i ∷ s) ≡ seen (i ∷ r)) where
   after_seen : (r : Shape) → seen (after_newline r) ≡ seen r
-  after_seen [] = newline []
   after_seen (Newline ∷ []) = refl
   after_seen (Newline ∷ Newline ∷ r) = refl
-  after_seen (Newline ∷ Comment text ∷ r) = newline (Newline ∷ Comment text ∷ r)
-  after_seen (Newline ∷ Construct attributes content ∷ r) = newline (Newline ∷ Construct attributes content ∷ r)
-  after_seen (Comment text ∷ r) = newline (Comment text ∷ r)
-  after_seen (Construct attributes content ∷ r) = newline (Construct attributes content ∷ r)
+  after_seen r = newline r
 
   rest_seen : (s : Shape) → seen (normal_rest s) ≡ seen s
   rest_seen [] = newline []
   rest_seen (Newline ∷ s) = after_seen (normal_rest s) ∙ rest_seen s ∙ sym (newline s)
-  rest_seen (Comment text ∷ s) = first (Comment text) (normal_rest s) s (rest_seen s)
-  rest_seen (Construct attributes content ∷ s) = first (Construct attributes content) (normal_rest s) s (rest_seen s)
+  rest_seen (i ∷ s) = first i (normal_rest s) s (rest_seen s)
 
   pub normal_seen : (s : Shape) → seen (normal s) ≡ seen s
   normal_seen [] = refl

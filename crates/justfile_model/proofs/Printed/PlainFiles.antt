@@ -23,17 +23,14 @@ module _ {A B C S D : Type 0} where
 -- what holds of each item, and of a line end, holds of each item of the normal form
 module _ (P : OrderedItem (List ℕ) (Unit {0}) (Unit {0}) → Type 0) (newline : P Newline) where
   newline_first : (s : Shape) → AllByRecursion P s → AllByRecursion P (after_newline s)
-  newline_first [] h = (newline, tt)
   newline_first (Newline ∷ []) h = h
   newline_first (Newline ∷ Newline ∷ s) h = h
-  newline_first (Newline ∷ Comment text ∷ s) h = (newline, h)
   newline_first _ h = (newline, h)
 
   each_rest : (s : Shape) → AllByRecursion P s → AllByRecursion P (normal_rest s)
   each_rest [] h = (newline, tt)
   each_rest (Newline ∷ s) h = newline_first (normal_rest s) (each_rest s h.1)
-  each_rest (Comment text ∷ s) h = (h.0, each_rest s h.1)
-  each_rest (Construct entries content ∷ s) h = (h.0, each_rest s h.1)
+  each_rest (i ∷ s) h = (h.0, each_rest s h.1)
 
   pub each_normal : (s : Shape) → AllByRecursion P s → AllByRecursion P (normal s)
   each_normal [] h = h

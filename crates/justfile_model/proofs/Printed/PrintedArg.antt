@@ -14,6 +14,7 @@ use Rattle.justfile_model.specs.Trees.Tree as tree
 use Rattle.justfile_model.specs.Trees.Tree.{Expr, Quoted, OptionName, Property, Bound, ArgumentRules}
 use Rattle.justfile_model.proofs.Lists.Binds.{some_back, never_some, bind_back, bind_is, nothing_in}
 use Rattle.justfile_model.proofs.Meanings.MeaningParts.{ArgMeaning}
+use Rattle.justfile_model.proofs.Meanings.NewArgumentLaws.{text_counts}
 use Rattle.justfile_model.proofs.Printed.PrintedKeys.{Value, KeyOf, key_with, keys_in, or_else, look, at_key_in, option_value, property_value, bare_value, bound_value, expr_value, rules_rows, literal_of}
 use Rattle.justfile_model.proofs.Printed.PrintedTexts.{count_is, counted, quoted_digits}
 
@@ -131,9 +132,8 @@ module _ (expander : Expansions) where
 
   pub numbered : (o : Option KeyOf) (r : Option (Bound (Unit {0}))) → AreBounds o r → Numbered r
   numbered None None h = tt
-  numbered None (Some b) h = absurd h
-  numbered (Some k) None h = absurd h
   numbered (Some k) (Some b) h = number_is (text_of view h.literal) b.number h.is
+  numbered _ _ h = absurd h
 
   bound_again : (word : List ℕ) (r : Option (Bound (Unit {0}))) → Numbered r → of_given (bound_of view) (option_map (key_with word) (bound_value r)) ≡ Some r
   bound_again word None h = refl
@@ -230,23 +230,17 @@ module _ (expander : Expansions) where
         exceeds : (ks : List KeyOf) (max min : Option KeyOf) → of_some (λ n. of_some (exceeds_broken view tt argument ks n) max) min
             ≡ exceeding (option_map (number_of view tt argument ks) max) (option_map (number_of view tt argument ks) min)
         unfolding exceeding
-        exceeds ks None None = refl
+        exceeds ks max None = refl
         exceeds ks None (Some n) = refl
-        exceeds ks (Some m) None = refl
-        exceeds ks (Some m) (Some n) = refl
-
-        text_counts : (o : Option (List ℕ)) (n : ℕ) → count_of (or_empty o) ≡ Some n → of_some (λ text. of_some (λ n. n ∷ []) (count_of text)) o ≡ n ∷ []
-        text_counts None n e = never_some n e
-        text_counts (Some text) n e = ap (of_some (λ n. n ∷ [])) e
+        exceeds ks _ (Some n) = refl
 
         number_before : (o : Option KeyOf) (r : Option (Bound (Unit {0}))) → AreBounds o r
             → option_map (number_of view tt argument keys) o ≡ option_map (λ (b : Bound (Unit {0})). b.number ∷ []) r
         number_before None None h = refl
-        number_before None (Some b) h = absurd h
-        number_before (Some k) None h = absurd h
         number_before (Some k) (Some b) h = ap Some (
             ap (of_some (λ value. of_some (λ q. of_some (λ text. of_some (λ n. n ∷ []) (count_of text)) (quoted_text view q)) (quoted value))) h.value
             ∙ text_counts (quoted_text view h.literal) b.number h.is)
+        number_before _ _ h = absurd h
 
         number_after : (word : List ℕ) (r : Option (Bound (Unit {0}))) → Numbered r
             → option_map (number_of view tt argument printed) (option_map (key_with word) (bound_value r))

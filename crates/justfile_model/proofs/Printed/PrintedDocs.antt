@@ -6,8 +6,9 @@ use Rattle.justfile_model.specs.Grammars.Docs.{Before, LineEnd, Other, comment_t
 use Rattle.justfile_model.specs.Grammars.Files.{sets_doc}
 use Rattle.justfile_model.specs.Printed.Printing.{doc_comment, shown_doc}
 use Rattle.justfile_model.specs.Printed.PrintedAttributes.{after_doc, docs_written}
-use Rattle.justfile_model.specs.Trees.Tree.{Alias, Assignment, Comment, Construct, Content, Entry, Module, Newline, OrderedItem, Recipe, RecipeParts}
+use Rattle.justfile_model.specs.Trees.Tree.{Assignment, Comment, Construct, Content, Entry, Module, Newline, OrderedItem, Recipe, RecipeParts}
 use Rattle.justfile_model.proofs.Lists.Binds.{never_some, some_back}
+use Rattle.justfile_model.proofs.Printed.DocsKept.{taken_cases}
 use Rattle.justfile_model.proofs.Printed.DocsText.{none_shown}
 use Rattle.justfile_model.proofs.Printed.PlainFiles.{InComment, IsPlain}
 use Rattle.justfile_model.proofs.Printed.TrimLaws.{taken_again}
@@ -71,19 +72,9 @@ module _ {A B C : Type 0} where
   with_doc_again entries _ doc s e = never_some doc e
 
   comment_stays : (before : Before) (comment : List ℕ) (items : List (OrderedItem A B C)) → NoDoc before comment items → taken sets_doc before (Comment comment) items ≡ Comment comment ∷ items
-  comment_stays before comment [] h = refl
-  comment_stays before comment (Newline ∷ []) h = refl
-  comment_stays before comment (Newline ∷ i ∷ items) h = by i (doc_in before comment) refl h
-    where
-      by : (i : OrderedItem A B C) (o : Option (List ℕ)) → doc_in before comment ≡ o → NoDoc before comment (Newline ∷ i ∷ items)
-          → comment_taken sets_doc comment i items o ≡ Comment comment ∷ Newline ∷ i ∷ items
-      by i None e h = refl
-      by Newline (Some doc) e h = refl
-      by (Comment text) (Some doc) e h = refl
-      by (Construct entries content) (Some doc) e h =
-          ap (λ b. doc_or_comment sets_doc comment (Construct entries content) items (cond b (Some (Construct entries (redocumented (Some doc) content))) None)) (h doc e)
-  comment_stays before comment (Comment text ∷ items) h = refl
-  comment_stays before comment (Construct entries content ∷ items) h = refl
+  comment_stays before comment items h =
+      taken_cases sets_doc before comment (λ l. l ≡ Comment comment ∷ items) items refl
+      (λ entries content more doc is e w. absurd (true≢false (sym w ∙ subst (NoDoc before comment) is h doc e)))
 
   construct_again : (before : Before) (entries : List (Entry A B)) (content : Content A B C (Unit {0})) (printed items : List (OrderedItem A B C))
       → DocAgain before entries content → documented sets_doc Other printed ≡ items → (o : Option (List ℕ)) → doc_of content ≡ o
@@ -109,44 +100,38 @@ module _ {A B C : Type 0} where
   no_doc_again before entries content e =
       record { shown = none_shown entries content e ∙ sym e; again = λ doc h. never_some doc (sym e ∙ h) }
 
+  -- a construct that takes a doc has it
+  doc_taken : (entries : List (Entry A B)) (content : Content A B C (Unit {0})) (doc : List ℕ) → can_take_doc sets_doc entries content ≡ true
+      → (sets_doc entries ≡ false) × (doc_of (redocumented (Some doc) content) ≡ Some doc)
+  doc_taken entries (Module parts) doc w = ((no_doc_yet (sets_doc entries) parts.doc w).0, refl)
+  doc_taken entries (Recipe parts) doc w = ((can_take_is entries parts w).0, refl)
+  doc_taken entries _ doc w = cc
+
   new_doc_again : (before : Before) (comment doc : List ℕ) (entries : List (Entry A B)) (content : Content A B C (Unit {0})) → Utf8Comment comment
       → doc_in before comment ≡ Some doc → can_take_doc sets_doc entries content ≡ true → DocAgain before entries (redocumented (Some doc) content)
-  new_doc_again before comment doc entries (Alias parts) u e w = absurd (true≢false (sym w))
-  new_doc_again before comment doc entries (Module parts) u e w =
-      let n = (no_doc_yet (sets_doc entries) parts.doc w).0 in
+  new_doc_again before comment doc entries content u e w =
+      let n = doc_taken entries content doc w in
       record {
-        shown = ap (λ b. cond b None (Some doc)) n;
-        again = λ d h. subst (λ x. doc_in before (doc_comment x) ≡ Some x) (some_back doc d h) (taken_again before comment doc u e);
+        shown = ap (λ b. cond b None (doc_of (redocumented (Some doc) content))) n.0;
+        again = λ d h. subst (λ x. doc_in before (doc_comment x) ≡ Some x) (some_back doc d (sym n.1 ∙ h)) (taken_again before comment doc u e);
       }
-  new_doc_again before comment doc entries (Recipe parts) u e w =
-      let n = (can_take_is entries parts w).0 in
-      record {
-        shown = ap (λ b. cond b None (Some doc)) n;
-        again = λ d h. subst (λ x. doc_in before (doc_comment x) ≡ Some x) (some_back doc d h) (taken_again before comment doc u e);
-      }
-  new_doc_again before comment doc entries _ u e w = absurd (true≢false (sym w))
 
   comment_settled : (before : Before) (comment : List ℕ) (items : List (OrderedItem A B C)) → Utf8Comment comment → SettledDocs Other items
       → SettledDocs before (taken sets_doc before (Comment comment) items)
-  comment_settled before comment [] u h = (tt, h)
-  comment_settled before comment (Newline ∷ []) u h = (tt, h)
   comment_settled before comment (Newline ∷ i ∷ items) u h = by i (doc_in before comment) refl h
     where
       by : (i : OrderedItem A B C) (o : Option (List ℕ)) → doc_in before comment ≡ o → SettledDocs LineEnd (i ∷ items)
           → SettledDocs before (comment_taken sets_doc comment i items o)
-      by Newline None e h = (tt, h)
-      by (Comment text) None e h = (tt, h)
       by (Construct entries content) None e h = ((λ doc f. never_some doc (sym e ∙ f)), h)
-      by Newline (Some doc) e h = (tt, h)
-      by (Comment text) (Some doc) e h = (tt, h)
       by (Construct entries content) (Some doc) e h = wanted (can_take_doc sets_doc entries content) refl
         where
           wanted : (b : Bool) → can_take_doc sets_doc entries content ≡ b
               → SettledDocs before (doc_or_comment sets_doc comment (Construct entries content) items (cond b (Some (Construct entries (redocumented (Some doc) content))) None))
           wanted true w = (new_doc_again before comment doc entries content u e w, h.1)
           wanted false w = ((λ d f. w), h)
-  comment_settled before comment (Comment text ∷ items) u h = (tt, h)
-  comment_settled before comment (Construct entries content ∷ items) u h = (tt, h)
+      by _ None e h = (tt, h)
+      by _ (Some doc) e h = (tt, h)
+  comment_settled before comment _ u h = (tt, h)
 
   -- the docs that are taken of comments are settled
   pub documented_settled : (before : Before) (items : List (OrderedItem A B C)) → AllByRecursion IsPlain items → AllByRecursion (InComment Utf8Comment) items

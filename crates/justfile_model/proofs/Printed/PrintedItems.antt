@@ -1,11 +1,11 @@
 -- The items of a shape, written as they are printed, mean the items of the shape, and break no rule.
-use Rattle.std.proofs.Common.{◌≡◌, ◌∙◌, ℕ, Bool, true, false, cond, List, [], ◌∷◌, ◌++◌, map, Option, Some, None, refl, sym, subst, ap}
+use Rattle.std.proofs.Common.{◌≡◌, ◌∙◌, ℕ, List, [], ◌∷◌, ◌++◌, map, Option, Some, None, refl, sym, subst, ap}
 use Rattle.std.specs.List.{AllByRecursion}
 use Rattle.std.specs.Option.{option_map}
 use Rattle.justfile_model.specs.Meanings.AttributeRules.{attributes_broken, of_some}
 use Rattle.justfile_model.specs.Grammars.Conditions.{VersionNumbers}
 use Rattle.justfile_model.specs.Meanings.ConstructRules.{form_broken, meaning_broken}
-use Rattle.justfile_model.specs.Grammars.Docs.{Before, LineEnd, Nothing, Other, comment_taken, doc_in, doc_or_comment, documented, redocumented, taken, can_take_doc}
+use Rattle.justfile_model.specs.Grammars.Docs.{Before, LineEnd, Nothing, Other, documented, redocumented, taken}
 use Rattle.justfile_model.specs.Grammars.Files.{all_literals, broken, content_literals, if_both, item_broken, item_literals, ordered, ordered_item, sets_doc, undocumented, with_entries, written_literals}
 use Rattle.justfile_model.specs.LiteralTexts.Literals.{Expansions}
 use Rattle.justfile_model.specs.Meanings.Meaning.{entries_of}
@@ -16,6 +16,7 @@ use Rattle.justfile_model.specs.Trees.Tree.{Assignment, Comment, Construct, Cont
 use Rattle.justfile_model.proofs.Lists.Binds.{nothing_in, some_back}
 use Rattle.justfile_model.proofs.Lists.Mapped.{map_same, option_same}
 use Rattle.justfile_model.proofs.Meanings.Ordered.{construct_meant, meanings_of, undocumented_of}
+use Rattle.justfile_model.proofs.Printed.DocsKept.{taken_cases}
 use Rattle.justfile_model.proofs.Printed.PlainFiles.{each_normal}
 use Rattle.justfile_model.proofs.Printed.PrintedDocs.{SettledDocs, printed_docs}
 use Rattle.justfile_model.proofs.Printed.PrintedEntries.{construct_again, entries_again, sees}
@@ -134,22 +135,10 @@ module _ (current : VersionNumbers) (expander : Expansions) where
   redocumented_again entries content doc h = h
 
   taken_prints : (before : Before) (comment : List ℕ) (s : Shape) → AllPrintAgain s → AllPrintAgain (taken sets_doc before (Comment comment) s)
-  taken_prints before comment [] h = (comment_again comment, h)
-  taken_prints before comment (Newline ∷ []) h = (comment_again comment, h)
-  taken_prints before comment (Newline ∷ i ∷ s) h = by i (doc_in before comment) h
-    where
-      by : (i : ShapeItem) (o : Option (List ℕ)) → AllPrintAgain (Newline ∷ i ∷ s) → AllPrintAgain (comment_taken sets_doc comment i s o)
-      by i None h = (comment_again comment, h)
-      by Newline (Some doc) h = (comment_again comment, h)
-      by (Comment text) (Some doc) h = (comment_again comment, h)
-      by (Construct entries content) (Some doc) h = wanted (can_take_doc sets_doc entries content)
-        where
-          wanted : (b : Bool)
-              → AllPrintAgain (doc_or_comment sets_doc comment (Construct entries content) s (cond b (Some (Construct entries (redocumented (Some doc) content))) None))
-          wanted true = (redocumented_again entries content (Some doc) h.1.0, h.1.1)
-          wanted false = (comment_again comment, h)
-  taken_prints before comment (Comment text ∷ s) h = (comment_again comment, h)
-  taken_prints before comment (Construct entries content ∷ s) h = (comment_again comment, h)
+  taken_prints before comment s h =
+      taken_cases sets_doc before comment AllPrintAgain s (comment_again comment, h) (λ entries content more doc is e w.
+      let k = subst AllPrintAgain is h in
+      (redocumented_again entries content (Some doc) k.1.0, k.1.1))
 
   pub documented_prints : (before : Before) (s : Shape) → AllPrintAgain s → AllPrintAgain (documented sets_doc before s)
   documented_prints before [] h = tt
@@ -171,9 +160,8 @@ module _ (current : VersionNumbers) (expander : Expansions) where
 
   pub docs_written_again : (s : Shape) → AllPrintAgain s → AllPrintAgain (docs_written s)
   docs_written_again [] h = tt
-  docs_written_again (Newline ∷ s) h = (h.0, docs_written_again s h.1)
-  docs_written_again (Comment text ∷ s) h = (h.0, docs_written_again s h.1)
   docs_written_again (Construct entries content ∷ s) h = after_doc_again entries content (docs_written s) (shown_doc entries content) h.0 (docs_written_again s h.1)
+  docs_written_again (i ∷ s) h = (h.0, docs_written_again s h.1)
 
   -- ---- its normal form
 

@@ -266,8 +266,7 @@ module _ (word : List ℕ) where
   option_is : (o : OptionName (List ℕ) (Unit {0})) → option_argument word o ≡ map key_argument (keyed word (option_value o))
   unfolding fixed_text
   option_is tree.NoOption = refl
-  option_is (tree.OwnName key) = refl
-  option_is (tree.Named q) = refl
+  option_is _ = refl
 
   keyed_is : {X : Type 0} (f : X → Value) (o : Option X) → keyed_if word f o ≡ map key_argument (keyed word (option_map (λ x. Some (f x)) o))
   unfolding fixed_text
@@ -308,10 +307,8 @@ signals_are (s ∷ ss) = ap (λ l. signal_argument s ∷ l) (signals_are ss)
 
 -- what an attribute is printed with
 pub arguments_are : (a : Attribute (List ℕ) (Unit {0})) → attribute_arguments a ≡ arguments_of (values_of a) (keys_in (rows_of a))
-arguments_are (tree.Plain kind) = refl
-arguments_are (tree.Single kind value) = refl
 arguments_are (tree.Texts kind texts) = texts_are texts
-arguments_are (tree.Env key value) = refl
 arguments_are (tree.Signals signals) = signals_are signals
 arguments_are (tree.Cache extra inputs outputs) = cache_is extra inputs outputs
 arguments_are (tree.Arg rules) = rules_are rules
+arguments_are _ = refl

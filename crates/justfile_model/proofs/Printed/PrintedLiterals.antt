@@ -58,9 +58,8 @@ module _ {A : Type 0} (P : Literal A → Type 0) where
         each_of (λ a. OfLiterals (argument_literals a)) (InArgument OfExpr OfKey) argument_in w.arguments (unflat P argument_literals w.arguments h)
 
     option_of : (word : List ℕ) (o : OptionName A B) → InOption OfExpr OfQuoted OfWord word o → OfLiterals (option_literals o)
-    option_of word tree.NoOption h = tt
-    option_of word (tree.OwnName key) h = tt
     option_of word (tree.Named q) h = (h, tt)
+    option_of word _ h = tt
 
     property_of : (word : List ℕ) (o : Option (Property A B)) → InProperty OfExpr OfQuoted OfWord word o
         → OfLiterals (optional_literals (λ (p : Property A B). expr_literals p.value) o)
@@ -129,9 +128,8 @@ module _ (expander : Expansions) where
 
   pub texts_are_there : (ls : List (Literal (List ℕ))) (texts : List (List ℕ)) → AreCookedTexts expander ls texts → HaveTexts ls
   texts_are_there [] [] h = tt
-  texts_are_there [] (t ∷ texts) h = absurd h
-  texts_are_there (l ∷ ls) [] h = absurd h
   texts_are_there (l ∷ ls) (t ∷ texts) h = (record { text = t; is = h.0 }, texts_are_there ls texts h.1)
+  texts_are_there _ _ h = absurd h
 
   -- the texts of literals that have some
   pub texts_of : (ls : List (Literal (List ℕ))) → HaveTexts ls → List (List ℕ)
@@ -176,9 +174,8 @@ module _ (expander : Expansions) where
   texts_have (q ∷ qs) h = ((h.0, tt), texts_have qs h.1)
 
   option_row : (o : OptionName (List ℕ) (Unit {0})) → HaveTexts (option_literals o) → OfValue (option_value o)
-  option_row tree.NoOption h = tt
-  option_row (tree.OwnName key) h = tt
   option_row (tree.Named q) h = h
+  option_row _ h = tt
 
   property_row : (o : Option (Property (List ℕ) (Unit {0}))) → HaveTexts (optional_literals (λ (p : Property (List ℕ) (Unit {0})). expr_literals p.value) o)
       → OfValue (property_value o)
@@ -229,7 +226,6 @@ module _ (expander : Expansions) where
   values_have (tree.Arg a) h = (((rules_parts a h).name, tt), tt)
 
   rows_of_have : (a : Attribute (List ℕ) (Unit {0})) → HaveTexts (attribute_literals a) → NumbersAre expander a → AllByRecursion OfRow (rows_of a)
-  rows_of_have (tree.Plain kind) h n = tt
   rows_of_have (tree.Cache extra inputs outputs) h n =
       let r = parts HasText (optional_literals expr_literals extra ++ optional_literals expr_literals inputs) (optional_literals expr_literals outputs) h in
       let s = parts HasText (optional_literals expr_literals extra) (optional_literals expr_literals inputs) r.0 in

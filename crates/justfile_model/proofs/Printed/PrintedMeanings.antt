@@ -230,25 +230,16 @@ module _ (expander : Expansions) where
   -- ---- `cache`
 
   cache_again : (extra inputs outputs : Option Value)
-      → attribute_of view kinds.Cache [] (keys_in (cache_rows extra inputs outputs)) ≡ Some (tree.Cache extra inputs outputs)
-  cache_again None None None = refl
-  cache_again None None (Some z) = refl
-  cache_again None (Some y) None = refl
-  cache_again None (Some y) (Some z) = refl
-  cache_again (Some x) None None = refl
-  cache_again (Some x) None (Some z) = refl
-  cache_again (Some x) (Some y) None = refl
-  cache_again (Some x) (Some y) (Some z) = refl
-
-  cache_unbroken : (extra inputs outputs : Option Value) → arguments_broken view tt kinds.Cache [] (keys_in (cache_rows extra inputs outputs)) ≡ []
-  cache_unbroken None None None = refl
-  cache_unbroken None None (Some z) = refl
-  cache_unbroken None (Some y) None = refl
-  cache_unbroken None (Some y) (Some z) = refl
-  cache_unbroken (Some x) None None = refl
-  cache_unbroken (Some x) None (Some z) = refl
-  cache_unbroken (Some x) (Some y) None = refl
-  cache_unbroken (Some x) (Some y) (Some z) = refl
+      → (attribute_of view kinds.Cache [] (keys_in (cache_rows extra inputs outputs)) ≡ Some (tree.Cache extra inputs outputs))
+      × (arguments_broken view tt kinds.Cache [] (keys_in (cache_rows extra inputs outputs)) ≡ [])
+  cache_again None None None = (refl, refl)
+  cache_again None None (Some z) = (refl, refl)
+  cache_again None (Some y) None = (refl, refl)
+  cache_again None (Some y) (Some z) = (refl, refl)
+  cache_again (Some x) None None = (refl, refl)
+  cache_again (Some x) None (Some z) = (refl, refl)
+  cache_again (Some x) (Some y) None = (refl, refl)
+  cache_again (Some x) (Some y) (Some z) = (refl, refl)
 
   cache_case : (es : List Value) (keys : List KeyOf) (a : Shaped) → attribute_of view kinds.Cache (map at_place es) keys ≡ Some a → Rewrites kinds.Cache a
   cache_case es keys a m =
@@ -259,10 +250,10 @@ module _ (expander : Expansions) where
       subst (Rewrites kinds.Cache) (some_back (tree.Cache x.first y.first z.first) a z.gives)
       (record {
         kind_is = refl;
-        means = cache_again x.first y.first z.first;
+        means = (cache_again x.first y.first z.first).0;
         once = each_once expander (cache_rows x.first y.first z.first)
             (refl, (refl, (refl, tt)));
-        unbroken = cache_unbroken x.first y.first z.first;
+        unbroken = (cache_again x.first y.first z.first).1;
         numbers = tt;
       })
 

@@ -1,13 +1,11 @@
 -- The texts of the literals that are printed for numbers and signals.
-use Rattle.std.proofs.Common.{◌≡◌, ◌∙◌, ℕ, suc, ◌-◌, ◌^◌, ◌<◌, ◌≤◌, Bool, true, false, cond, not, ◌&&◌, ◌==◌, nat_lt, List, [], ◌∷◌, ◌++◌, length, take, get_or, slice_index, Some, None, Ok, codes, decimal, refl, sym, ap, subst, arith, true≢false, length-append, ltb-true, ltb-false, inl, inr}
+use Rattle.std.proofs.Common.{◌≡◌, ◌∙◌, ℕ, suc, ◌-◌, ◌^◌, ◌<◌, Bool, true, false, cond, ◌&&◌, ◌==◌, nat_lt, List, [], ◌∷◌, ◌++◌, length, take, get_or, slice_index, Some, None, Ok, codes, decimal, refl, sym, ap, subst, arith, true≢false, length-append, ltb-true, inl, inr}
 use Rattle.std.proofs.lemmas.Bool.{and_parts}
-use Rattle.std.proofs.lemmas.Bool.Decides.{eqb_tells}
+use Rattle.std.proofs.lemmas.Bool.Decides.{eqb_tells, nat_tests}
 use Rattle.std.proofs.lemmas.Fmt.{decimal-digits_value}
 use Rattle.std.proofs.Math.Seq.{take-append_seam}
-use Rattle.std.proofs.lemmas.Str.{digit_value_digit}
 use Rattle.std.proofs.lemmas.Str.Parse.{numerals_by_value, tells_digits}
 use Rattle.std.specs.Char.{digit_value, encode_utf8}
-use Rattle.std.specs.List.{list_all}
 use Rattle.std.specs.Option.{is_some}
 use Rattle.std.specs.Str.{chars}
 use Rattle.std.specs.Str.Parse.{AllDigits, digits_value}
@@ -19,22 +17,9 @@ use Rattle.justfile_model.specs.LiteralTexts.Literals.{string_text, between}
 use Rattle.justfile_model.specs.LiteralTexts.Unindent.{unindented}
 use Rattle.justfile_model.specs.Meanings.Meaning.{is_count, count_of}
 use Rattle.justfile_model.specs.Printed.Printing.{fixed_text}
+use Rattle.justfile_model.proofs.Lists.CountLaws.{all_digits, digits_of_count}
 
 -- ---- numbers
-
-not_true : (b : Bool) → not b ≡ true → b ≡ false
-not_true true e = absurd (true≢false (sym e))
-not_true false e = refl
-
-digit_in : (b : ℕ) → 48 ≤ b → b < 58 → digit_value b < 10
-digit_in b h k = omega (arith, digit_value_digit b (h, omega arith))
-
-digits_in : (bs : List ℕ) → list_all (λ c. not (nat_lt c 48) && nat_lt c 58) bs ≡ true → AllDigits 10 bs
-digits_in [] e = tt
-digits_in (b ∷ bs) e =
-    let x = and_parts (not (nat_lt b 48) && nat_lt b 58) (list_all (λ c. not (nat_lt c 48) && nat_lt c 58) bs) e in
-    let y = and_parts (not (nat_lt b 48)) (nat_lt b 58) x.0 in
-    (digit_in b (ltb-false b 48 (not_true (nat_lt b 48) y.0)) (ltb-true b 58 y.1), digits_in bs x.1)
 
 -- facts about the text of a count
 pub record Count (text : List ℕ) : Type 0 where
@@ -42,17 +27,13 @@ pub record Count (text : List ℕ) : Type 0 where
   pub digits : AllDigits 10 text
   pub lead : get_or text 0 0 ≡ 48 → length text ≡ 1
 
+lead : (text : List ℕ) → is_count text ≡ true → get_or text 0 0 ≡ 48 → length text ≡ 1
+lead [] e z = cc
+lead (b ∷ []) e z = refl
+lead (b ∷ c ∷ cs) e z = absurd (grind (arith, nat_tests))
+
 pub count_is : (text : List ℕ) → is_count text ≡ true → Count text
-count_is [] e = absurd (true≢false (sym e))
-count_is (b ∷ []) e =
-    let y = and_parts (not (nat_lt b 48)) (nat_lt b 58) e in
-    record { some = omega arith; digits = (digit_in b (ltb-false b 48 (not_true (nat_lt b 48) y.0)) (ltb-true b 58 y.1), tt); lead = λ z. refl }
-count_is (b ∷ c ∷ cs) e =
-    let x = and_parts (not (nat_lt b 49) && nat_lt b 58) (list_all (λ c. not (nat_lt c 48) && nat_lt c 58) (c ∷ cs)) e in
-    let y = and_parts (not (nat_lt b 49)) (nat_lt b 58) x.0 in
-    let low : 49 ≤ b = ltb-false b 49 (not_true (nat_lt b 49) y.0) in
-    let high : b < 58 = ltb-true b 58 y.1 in
-    record { some = omega arith; digits = (digit_in b (omega arith) high, digits_in (c ∷ cs) x.1); lead = λ z. absurd (let z : b ≡ 48 = z in omega arith) }
+count_is text e = let d = digits_of_count text e in record { some = d.0; digits = all_digits text d.1; lead = lead text e }
 
 -- a count is what is printed of its number
 pub decimal_count : (text : List ℕ) → is_count text ≡ true → digits_value 10 text < 2 ^ 64 → decimal (digits_value 10 text) ≡ text

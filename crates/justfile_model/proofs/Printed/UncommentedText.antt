@@ -37,17 +37,14 @@ text_same (i ∷ items) indentation none = λ j. item_same i indentation none.0 
 -- ---- the normal shape has no comments either
 
 newline_none : (s : Shape) → HasNoComments s → HasNoComments (after_newline s)
-newline_none [] none = (tt, none)
 newline_none (Newline ∷ []) none = none
 newline_none (Newline ∷ Newline ∷ items) none = none
-newline_none (Newline ∷ Comment text ∷ items) none = (tt, none)
 newline_none _ none = (tt, none)
 
 rest_none : (s : Shape) → HasNoComments s → HasNoComments (normal_rest s)
 rest_none [] none = (tt, tt)
 rest_none (Newline ∷ items) none = newline_none (normal_rest items) (rest_none items none.1)
-rest_none (Comment text ∷ items) none = (tt, rest_none items none.1)
-rest_none (Construct entries content ∷ items) none = (none.0, rest_none items none.1)
+rest_none (i ∷ items) none = (none.0, rest_none items none.1)
 
 normal_none : (s : Shape) → HasNoComments s → HasNoComments (normal s)
 normal_none [] none = tt

@@ -1,5 +1,5 @@
 -- The parser of attribute lines, one rule at a time: it leaves fewer tokens, and the same fixed part and depth.
-use Rattle.std.proofs.Common.{◌≡◌, ℕ, Bool, true, false, ◌&&◌, List, [], ◌∷◌, ◌++◌, length, map, Option, Some, None, Ok, Err, refl}
+use Rattle.std.proofs.Common.{◌≡◌, ℕ, Bool, true, false, ◌&&◌, List, [], ◌∷◌, ◌++◌, map, Option, Some, None, Ok, Err, refl}
 use Rattle.justfile_vocabulary.specs.AttributeKind.{kind_named, takes_keys}
 use Rattle.justfile_vocabulary.specs.declared.attribute_kind.AttributeKind.{AttributeKind}
 use Rattle.justfile_vocabulary.specs.declared.token_kind.TokenKind.TheVariants as kinds
@@ -16,8 +16,7 @@ use Rattle.justfile_model.specs.Trees.LeafView.{LeafView}
 use Rattle.justfile_model.specs.Trees.Tree as tree
 use Rattle.justfile_model.specs.Trees.Tree.{Argument, Entry, Expr, WrittenAttribute}
 use Rattle.justfile_model.proofs.Readers.ExpressionReading.{advances}
-use Rattle.justfile_model.proofs.Readers.ReadingSteps.{Goes, Keeps, accepts, after_test, after_then, bind_alike, choose_alike, either, either_goes, expects, first, keeps, past, past_then, then, there, weaken}
-use Rattle.justfile_model.proofs.Lists.Turns.{recursive_keeps, recursive_step}
+use Rattle.justfile_model.proofs.Readers.ReadingSteps.{Goes, Keeps, accepts, after_test, after_then, bind_alike, choose_alike, either, either_goes, expects, first, keeps, loop_goes, loop_is, loop_keeps, past, past_then, then, there, weaken}
 
 module _ {R T A B S W : Type 0} (leaves : Leaves R T A B S) (view : R → LeafView A B) (keep : WrittenAttribute A B → Entry A B → W) (entry_in : W → Entry A B)
   where
@@ -86,33 +85,23 @@ module _ {R T A B S W : Type 0} (leaves : Leaves R T A B S) (view : R → LeafVi
 
     -- ---- arguments
 
-    pub arguments_end_goes : (all : List (Argument A B)) (s : State R T B) → Goes s (r.arguments_end leaves view keep entry_in all s)
-    unfolding r.arguments_end
-    arguments_end_goes all s = first s (expect leaves kinds.ParenR s) _ (expects leaves kinds.ParenR s) (λ closer. there closer.1)
-
-    arguments_rule_goes : (name : T) (keys : Bool) (f : ArgumentPlace → ReadArguments) → ((x : ArgumentPlace) → Goes x.1 (f x)) → (x : ArgumentPlace)
-        → Goes x.1 (r.arguments_rule leaves view keep entry_in name keys f x)
-    arguments_rule_goes name keys f h x =
+    pub arguments_from_goes : (name : T) (keys : Bool) (x : ArgumentPlace) → Goes x.1 (r.arguments_from leaves view keep entry_in name keys x)
+    unfolding r.arguments_from r.arguments_end
+    arguments_from_goes name keys =
+        loop_goes (λ x. x.1) (r.arguments_rule leaves view keep entry_in name keys) (λ f h x.
         either_goes x.1 (accept leaves kinds.ParenR x.1) _ _ (accepts leaves kinds.ParenR x.1)
         (first x.1 (r.argument leaves view keep entry_in name keys x.0 x.1) _ (argument_goes name keys x.0 x.1) (λ a.
         either a.1 (accept leaves kinds.Comma a.1) _ _ (accepts leaves kinds.Comma a.1)
-        (keeps a.1 _ (arguments_end_goes (x.0 ++ a.0 ∷ []) a.1))
+        (then a.1 (expect leaves kinds.ParenR a.1) _ (keeps a.1 _ (expects leaves kinds.ParenR a.1)) (λ closer. there closer.1))
         (λ comma. keeps comma.1 (f (x.0 ++ a.0 ∷ [], comma.1)) (h (x.0 ++ a.0 ∷ [], comma.1)))))
-        (λ closer. there closer.1)
-
-    pub arguments_from_goes : (name : T) (keys : Bool) (x : ArgumentPlace) → Goes x.1 (r.arguments_from leaves view keep entry_in name keys x)
-    unfolding r.arguments_from
-    arguments_from_goes name keys =
-        recursive_keeps (λ (x : ArgumentPlace). length x.1.left) (r.no_arguments leaves view keep entry_in)
-        (r.arguments_rule leaves view keep entry_in name keys)
-        (λ x found. Goes x.1 found) (λ x. tt) (arguments_rule_goes name keys)
+        (λ closer. there closer.1))
 
     pub arguments_from_is : (name : T) (keys : Bool) (x : ArgumentPlace)
         → r.arguments_from leaves view keep entry_in name keys x ≡ r.arguments_rule leaves view keep entry_in name keys
         (r.arguments_from leaves view keep entry_in name keys) x
     unfolding r.arguments_from
     arguments_from_is name keys x =
-        recursive_step (λ (x : ArgumentPlace). length x.1.left) (r.no_arguments leaves view keep entry_in) (r.arguments_rule leaves view keep entry_in name keys) (λ x f g same.
+        loop_is (λ x. x.1) (r.arguments_rule leaves view keep entry_in name keys) (λ x f g same.
         choose_alike (accept leaves kinds.ParenR x.1) _ _ _ _
         (λ _. bind_alike (r.argument leaves view keep entry_in name keys x.0 x.1) _ _ (λ a is. choose_alike (accept leaves kinds.Comma a.1) _ _ _ _ (λ _. refl)
         (λ comma taken. same (x.0 ++ a.0 ∷ [], comma.1)
@@ -172,29 +161,20 @@ module _ {R T A B S W : Type 0} (leaves : Leaves R T A B S) (view : R → LeafVi
 
     -- ---- the attributes of a bracket
 
-    pub bracket_end_goes : (all : List W) (s : State R T B) → Goes s (r.bracket_end leaves view keep entry_in all s)
-    unfolding r.bracket_end
-    bracket_end_goes all s = first s (expect leaves kinds.BracketR s) _ (expects leaves kinds.BracketR s) (λ closer. there closer.1)
-
-    bracketed_rule_goes : (f : AttributePlace → ReadAttributes) → ((x : AttributePlace) → Goes x.1 (f x)) → (x : AttributePlace)
-        → Goes x.1 (r.bracketed_rule leaves view keep entry_in f x)
-    bracketed_rule_goes f h x =
+    pub bracketed_goes : (x : AttributePlace) → Goes x.1 (r.bracketed leaves view keep entry_in x)
+    unfolding r.bracketed r.bracket_end
+    bracketed_goes =
+        loop_goes (λ x. x.1) (r.bracketed_rule leaves view keep entry_in) (λ f h x.
         first x.1 (r.attribute leaves view keep entry_in x.0 x.1) _ (attribute_goes x.0 x.1) (λ w.
         either w.1 (accept leaves kinds.Comma w.1) _ _ (accepts leaves kinds.Comma w.1)
-        (keeps w.1 _ (bracket_end_goes (x.0 ++ w.0 ∷ []) w.1))
-        (λ comma. keeps comma.1 (f (x.0 ++ w.0 ∷ [], comma.1)) (h (x.0 ++ w.0 ∷ [], comma.1))))
-
-    pub bracketed_goes : (x : AttributePlace) → Goes x.1 (r.bracketed leaves view keep entry_in x)
-    unfolding r.bracketed
-    bracketed_goes =
-        recursive_keeps (λ (x : AttributePlace). length x.1.left) (r.no_attributes leaves view keep entry_in) (r.bracketed_rule leaves view keep entry_in)
-        (λ x found. Goes x.1 found) (λ x. tt) bracketed_rule_goes
+        (then w.1 (expect leaves kinds.BracketR w.1) _ (keeps w.1 _ (expects leaves kinds.BracketR w.1)) (λ closer. there closer.1))
+        (λ comma. keeps comma.1 (f (x.0 ++ w.0 ∷ [], comma.1)) (h (x.0 ++ w.0 ∷ [], comma.1)))))
 
     pub bracketed_is : (x : AttributePlace) → r.bracketed leaves view keep entry_in x ≡ r.bracketed_rule leaves view keep
         entry_in (r.bracketed leaves view keep entry_in) x
     unfolding r.bracketed
     bracketed_is x =
-        recursive_step (λ (x : AttributePlace). length x.1.left) (r.no_attributes leaves view keep entry_in) (r.bracketed_rule leaves view keep entry_in) (λ x f g same.
+        loop_is (λ x. x.1) (r.bracketed_rule leaves view keep entry_in) (λ x f g same.
         bind_alike (r.attribute leaves view keep entry_in x.0 x.1) _ _
         (λ w is. choose_alike (accept leaves kinds.Comma w.1) _ _ _ _ (λ _. refl)
         (λ comma taken. same (x.0 ++ w.0 ∷ [], comma.1)
@@ -214,19 +194,13 @@ module _ {R T A B S W : Type 0} (leaves : Leaves R T A B S) (view : R → LeafVi
 
     -- `put` adds a comment to the part of an attribute that is kept
     module _ (put : List ℕ → W → W) where
-      lines_rule_keeps : (f : AttributePlace → ReadAttributes) → ((x : AttributePlace) → Keeps x.1 (f x)) → (x : AttributePlace)
-          → Keeps x.1 (r.attribute_lines_rule leaves view keep entry_in put f x)
-      lines_rule_keeps f h x =
-          either x.1 (accept leaves kinds.BracketL x.1) _ _ (accepts leaves kinds.BracketL x.1) (there x.1) (λ opener.
-          then opener.1 (r.bracketed leaves view keep entry_in (x.0, opener.1)) _ (keeps opener.1 _ (bracketed_goes (x.0, opener.1))) (λ ws.
-          then ws.1 (r.attributes_end leaves view keep entry_in ws.1) _ (keeps ws.1 _ (attributes_end_goes ws.1)) (λ end. h (r.commented_by leaves view keep entry_in put end.0 ws.0, end.1))))
-
       pub attribute_lines_from_keep : (x : AttributePlace) → Keeps x.1 (r.attribute_lines_from leaves view keep entry_in put x)
       unfolding r.attribute_lines_from
       attribute_lines_from_keep =
-          recursive_keeps (λ (x : AttributePlace). length x.1.left) (r.no_attributes leaves view keep entry_in)
-          (r.attribute_lines_rule leaves view keep entry_in put)
-          (λ x found. Keeps x.1 found) (λ x. tt) lines_rule_keeps
+          loop_keeps (λ x. x.1) (r.attribute_lines_rule leaves view keep entry_in put) (λ f h x.
+          either x.1 (accept leaves kinds.BracketL x.1) _ _ (accepts leaves kinds.BracketL x.1) (there x.1) (λ opener.
+          then opener.1 (r.bracketed leaves view keep entry_in (x.0, opener.1)) _ (keeps opener.1 _ (bracketed_goes (x.0, opener.1))) (λ ws.
+          then ws.1 (r.attributes_end leaves view keep entry_in ws.1) _ (keeps ws.1 _ (attributes_end_goes ws.1)) (λ end. h (r.commented_by leaves view keep entry_in put end.0 ws.0, end.1)))))
 
       -- a construct can have no attributes, and then no token is taken
       pub attribute_lines_keep : (s : State R T B) → Keeps s (r.attribute_lines leaves view keep entry_in put s)
@@ -238,7 +212,7 @@ module _ {R T A B S W : Type 0} (leaves : Leaves R T A B S) (view : R → LeafVi
           entry_in put (r.attribute_lines_from leaves view keep entry_in put) x
       unfolding r.attribute_lines_from
       attribute_lines_from_is x =
-          recursive_step (λ (x : AttributePlace). length x.1.left) (r.no_attributes leaves view keep entry_in) (r.attribute_lines_rule leaves view keep entry_in put) (λ x f g same.
+          loop_is (λ x. x.1) (r.attribute_lines_rule leaves view keep entry_in put) (λ x f g same.
           choose_alike (accept leaves kinds.BracketL x.1) _ _ _ _ (λ _. refl)
           (λ opener taken. bind_alike (r.bracketed leaves view keep entry_in (x.0, opener.1)) _ _ (λ ws is.
           bind_alike (r.attributes_end leaves view keep entry_in ws.1) _ _ (λ end is2. same (r.commented_by leaves view keep entry_in put end.0 ws.0, end.1)

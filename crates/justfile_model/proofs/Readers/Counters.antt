@@ -1,5 +1,6 @@
 -- The counters grow by what is parsed.
-use Rattle.std.proofs.Common.{◌≡◌, ℕ, ◌+◌, Bool, true, false, cond, List, [], ◌∷◌, ◌++◌, length, Option, Some, None, Ok, Err, IfOk, codes, refl, sym, ap, ◌∙◌, arith}
+use Rattle.std.proofs.Common.{◌≡◌, ℕ, ◌+◌, Bool, true, false, List, [], ◌∷◌, ◌++◌, length, Ok, Err, IfOk, codes, refl, sym, ap, ◌∙◌, arith}
+use Rattle.std.proofs.lemmas.List.{append-nil, append_assoc}
 use Rattle.justfile_vocabulary.specs.declared.item_kind.ItemKind.TheVariants as item_kinds
 use Rattle.justfile_vocabulary.specs.declared.token_kind.TokenKind.TheVariants as kinds
 use Rattle.justfile_model.specs.Grammars.Files.{bindings, item_bindings, item_recipes, recipes}
@@ -8,16 +9,15 @@ use Rattle.justfile_model.specs.declared.parameter_kind.ParameterKind.{Parameter
 use Rattle.justfile_model.specs.declared.parameter_kind.ParameterKind.TheVariants.{Plus, Singular, Star}
 use Rattle.justfile_model.specs.Readers.HeaderReader as r
 use Rattle.justfile_model.specs.Readers.HeaderReader.{ReadHeader, next_binding_number, expression, obeying, with_bindings}
-use Rattle.justfile_model.specs.Readers.PartReader.{accept_keyword_before, after_numbered, file_path, peek_assignment, is_imported, is_module, is_set, setting_keyword, line_is, names, names_end, names_rule, no_names, numbered_name, optional_path, setting_value}
+use Rattle.justfile_model.specs.Readers.PartReader.{accept_keyword_before, after_numbered, file_path, peek_assignment, is_imported, is_module, is_set, setting_keyword, line_is, names, names_end, names_rule, numbered_name, optional_path, setting_value}
 use Rattle.justfile_model.specs.Grammars.Settings.{setting_form}
-use Rattle.justfile_model.specs.Readers.Reader.{CommentedBody, Start, alias, check_allowed, any_module, any_recipe, argument_rules, assigned, assignment, at_end, attributes, construct, content, next_recipe_number, end_of_tokens, item_end, function, has_body, headed, import, imported, after_item, items, items_from, items_rule, line, line_end, named_module, check_exclusions, no_items, any_item, optional_body, recipe, setting, unexport, with_recipes, without_keyword}
-use Rattle.justfile_model.specs.Readers.ReaderState.{Counters, ◌>>=◌, Leaves, NoNumber, Read, State, Taken, accept, accepted, choose, expect, next_are}
+use Rattle.justfile_model.specs.Readers.Reader.{CommentedBody, alias, check_allowed, any_module, any_recipe, argument_rules, assignment, at_end, attributes, construct, content, next_recipe_number, end_of_tokens, item_end, function, has_body, headed, import, imported, after_item, items, items_from, items_rule, line, line_end, named_module, check_exclusions, any_item, optional_body, recipe, setting, unexport, with_recipes, without_keyword}
+use Rattle.justfile_model.specs.Readers.ReaderState.{Counters, ◌>>=◌, Leaves, Read, State, accept, accepted, choose, expect, next_are}
 use Rattle.justfile_model.specs.Meanings.RecipeRules.{parameter_broken, undefined_broken}
 use Rattle.justfile_model.specs.Trees.LeafView.{LeafView}
 use Rattle.justfile_model.specs.Trees.Tree as tree
 use Rattle.justfile_model.specs.Trees.Tree.{ArgumentRules, BodyLine, Construct, Content, Expr, Item, Parameter}
-use Rattle.justfile_model.proofs.Readers.ReadingSteps.{after_test, known}
-use Rattle.justfile_model.proofs.Lists.Turns.{recursive_keeps}
+use Rattle.justfile_model.proofs.Readers.ReadingSteps.{after_all, after_choice, after_test, known, loop_has}
 
 -- ---- the counters after items
 
@@ -26,20 +26,15 @@ abbrev pub after_parameters : {P : Type 0} → Counters → List P → Counters
 after_parameters n [] = n
 after_parameters n (p ∷ ps) = after_parameters (with_bindings (n.bindings + 1) n) ps
 
-pub after_more : {P : Type 0} (n : Counters) (ps : List P) (p : P)
-    → after_parameters n (ps ++ p ∷ []) ≡ with_bindings ((after_parameters n ps).bindings + 1) (after_parameters n ps)
-after_more n [] p = refl
-after_more n (q ∷ ps) p = after_more (with_bindings (n.bindings + 1) n) ps p
+pub after_more : {P : Type 0} (n : Counters) (ps qs : List P) → after_parameters n (ps ++ qs) ≡ after_parameters (after_parameters n ps) qs
+after_more n [] qs = refl
+after_more n (p ∷ ps) qs = after_more (with_bindings (n.bindings + 1) n) ps qs
 
 abbrev pub count_content : {A B C S : Type 0} → Counters → Content A B C S → Counters
-count_content n (tree.Alias parts) = n
 count_content n (tree.Assignment parts) = with_bindings (n.bindings + 1) n
 count_content n (tree.Function parts) = after_parameters n parts.parameters
-count_content n (tree.Import parts) = n
-count_content n (tree.Module parts) = n
-count_content n (tree.Setting parts) = n
-count_content n (tree.Unexport name) = n
 count_content n (tree.Recipe parts) = with_recipes (n.recipes + 1) (after_parameters n parts.header.parameters)
+count_content n _ = n
 
 abbrev pub count : {A B C S D : Type 0} → Counters → Item A B C S D → Counters
 count n tree.Newline = n
@@ -67,40 +62,18 @@ parameters_constants n [] = refl
 parameters_constants n (p ∷ ps) = parameters_constants (with_bindings (n.bindings + 1) n) ps
 
 count_bindings : {A B C S D : Type 0} (n : Counters) (i : Item A B C S D) → (count n i).bindings ≡ n.bindings + item_bindings i
-count_bindings n tree.Newline = omega arith
-count_bindings n (tree.Comment text) = omega arith
-count_bindings n (Construct attributes (tree.Alias parts)) = omega arith
-count_bindings n (Construct attributes (tree.Assignment parts)) = refl
 count_bindings n (Construct attributes (tree.Function parts)) = parameters_bindings n parts.parameters
-count_bindings n (Construct attributes (tree.Import parts)) = omega arith
-count_bindings n (Construct attributes (tree.Module parts)) = omega arith
-count_bindings n (Construct attributes (tree.Setting parts)) = omega arith
-count_bindings n (Construct attributes (tree.Unexport name)) = omega arith
 count_bindings n (Construct attributes (tree.Recipe parts)) = parameters_bindings n parts.header.parameters
+count_bindings n _ = omega arith
 
 count_recipes : {A B C S D : Type 0} (n : Counters) (i : Item A B C S D) → (count n i).recipes ≡ n.recipes + item_recipes i
-count_recipes n tree.Newline = omega arith
-count_recipes n (tree.Comment text) = omega arith
-count_recipes n (Construct attributes (tree.Alias parts)) = omega arith
-count_recipes n (Construct attributes (tree.Assignment parts)) = omega arith
 count_recipes n (Construct attributes (tree.Function parts)) = omega (arith, parameters_recipes n parts.parameters)
-count_recipes n (Construct attributes (tree.Import parts)) = omega arith
-count_recipes n (Construct attributes (tree.Module parts)) = omega arith
-count_recipes n (Construct attributes (tree.Setting parts)) = omega arith
-count_recipes n (Construct attributes (tree.Unexport name)) = omega arith
-count_recipes n (Construct attributes (tree.Recipe parts)) = refl
+count_recipes n _ = omega arith
 
 count_constants : {A B C S D : Type 0} (n : Counters) (i : Item A B C S D) → (count n i).constants ≡ n.constants
-count_constants n tree.Newline = refl
-count_constants n (tree.Comment text) = refl
-count_constants n (Construct attributes (tree.Alias parts)) = refl
-count_constants n (Construct attributes (tree.Assignment parts)) = refl
 count_constants n (Construct attributes (tree.Function parts)) = parameters_constants n parts.parameters
-count_constants n (Construct attributes (tree.Import parts)) = refl
-count_constants n (Construct attributes (tree.Module parts)) = refl
-count_constants n (Construct attributes (tree.Setting parts)) = refl
-count_constants n (Construct attributes (tree.Unexport name)) = refl
 count_constants n (Construct attributes (tree.Recipe parts)) = parameters_constants n parts.header.parameters
+count_constants n _ = refl
 
 pub counted_bindings : {A B C S D : Type 0} (n : Counters) (is : List (Item A B C S D)) → (counted n is).bindings ≡ n.bindings + bindings is
 counted_bindings n [] = omega arith
@@ -117,13 +90,12 @@ counted_constants n (i ∷ is) = counted_constants (count n i) is ∙ count_cons
 -- ---- what is read
 
 module _ {R T A B S : Type 0} (leaves : Leaves R T A B S) where
-  after_all : {X Y : Type 0} (found : Read R T B X) (f : X × State R T B → Read R T B Y) (Q : Y → Type 0) → ((x : X × State R T B) → found ≡ Ok x → IfOk (f x) (λ y. Q y.0)) → IfOk (found >>= f) (λ y. Q y.0)
-  after_all (Ok x) f Q h = h x refl
-  after_all (Err e) f Q h = tt
-
-  after_choice : {Y : Type 0} (o : Taken R T B) (x : Read R T B Y) (f : T × State R T B → Read R T B Y) (Q : Y → Type 0) → IfOk x (λ y. Q y.0) → ((p : T × State R T B) → IfOk (f p) (λ y. Q y.0)) → IfOk (choose o x f) (λ y. Q y.0)
-  after_choice None x f Q h g = h
-  after_choice (Some p) x f Q h g = g p
+  -- what is read with the next number, if there is one
+  binding_drawn : {X : Type 0} (n : Counters) (s : State R T B) (f : (ℕ × Counters) × State R T B → Read R T B X) (Q : X → Type 0)
+      → IfOk (f ((n.bindings, with_bindings (n.bindings + 1) n), s)) (λ x. Q x.0) → IfOk (next_binding_number leaves n s >>= f) (λ x. Q x.0)
+  unfolding next_binding_number
+  binding_drawn {X} n s f Q h =
+      after_test (leaves.has_number n.bindings) _ _ (λ (o : Read R T B (ℕ × Counters)). IfOk (o >>= f) (λ x. Q x.0)) (λ _. h) (λ _. tt)
 
   module _ (view : R → LeafView A B) (rules : List (ArgumentRules A B)) where
     abbrev ParameterPlace : Type 0
@@ -132,81 +104,85 @@ module _ {R T A B S : Type 0} (leaves : Leaves R T A B S) where
     abbrev Parameters : Type 0
     Parameters = r.Parameters leaves view rules
 
-    -- where these parameters drew their numbers from there on, those that are read do too
-    abbrev After : Parameters → Read R T B Parameters → Type 0
-    After x found = IfOk found (λ y. (n : Counters) → x.1 ≡ after_parameters n x.0 → y.0.1 ≡ after_parameters n y.0.0)
+    -- these parameters with others, which drew their numbers after them
+    pub record Drawn (x y : Parameters) : Type 0 where
+      pub others : List (Parameter A B)
+      pub all_are : y.0 ≡ x.0 ++ others
+      pub counts : y.1 ≡ after_parameters x.1 others
 
-    number_counted : (kind : ParameterKind) (export : Bool) (x : Parameters) (name : T) (default : Option (Expr A B)) (s : State R T B)
-        → After x (next_binding_number leaves x.1 s >>= r.numbered leaves view rules kind export x.0 name default)
-    unfolding next_binding_number
-    number_counted kind export x name default s = go (leaves.has_number x.1.bindings)
+    abbrev pub Draws : Parameters → Read R T B Parameters → Type 0
+    Draws x found = IfOk found (λ y. Drawn x y.0)
+
+    none_drawn : (x : Parameters) → Drawn x x
+    none_drawn x = record { others = []; all_are = sym (append-nil x.0); counts = refl }
+
+    drawn_then : (x y z : Parameters) → Drawn x y → Drawn y z → Drawn x z
+    drawn_then x y z h k = record {
+      others = h.others ++ k.others;
+      all_are = k.all_are ∙ ap (λ ps. ps ++ k.others) h.all_are ∙ append_assoc x.0 h.others k.others;
+      counts = k.counts ∙ ap (λ n. after_parameters n k.others) h.counts ∙ sym (after_more x.1 h.others k.others);
+    }
+
+    -- what is read after these parameters draws after them
+    draws_then : (x : Parameters) (found : Read R T B Parameters) (f : ParameterPlace → Read R T B Parameters) → Draws x found
+        → ((p : ParameterPlace) → Draws p.0 (f p)) → Draws x (found >>= f)
+    draws_then x found f h k =
+        after_all found f (Drawn x) (λ p is. all_drawn p (f p) (known p (λ y. Drawn x y.0) is h) (k p))
       where
-        go : (b : Bool)
-            → After x (cond b (Ok ((x.1.bindings, with_bindings (x.1.bindings + 1) x.1), s)) (Err (NoNumber x.1)) >>= r.numbered leaves view rules kind export x.0
-            name default)
-        go true = λ n is. ap (λ (m : Counters). with_bindings (m.bindings + 1) m) is ∙ sym (after_more n x.0 _)
-        go false = tt
+        all_drawn : (p : ParameterPlace) (found : Read R T B Parameters) → Drawn x p.0 → Draws p.0 found → Draws x found
+        all_drawn p (Ok y) h k = drawn_then x p.0 y.0 h k
+        all_drawn p (Err e) h k = tt
 
-    named_parameter_counts : (kind : ParameterKind) (export : Bool) (x : Parameters) (s : State R T B)
-        → After x (r.named_parameter leaves view rules kind export x s)
+    -- what is read without a number
+    pub draws_still : {X : Type 0} (p : ParameterPlace) (found : Read R T B X) → Draws p.0 (found >>= λ end. Ok (p.0, end.1))
+    draws_still p found = after_all found _ (Drawn p.0) (λ end _. none_drawn p.0)
+
+    named_parameter_draws : (kind : ParameterKind) (export : Bool) (x : Parameters) (s : State R T B)
+        → Draws x (r.named_parameter leaves view rules kind export x s)
     unfolding r.named_parameter
-    named_parameter_counts kind export x s =
-        let Q : Parameters → Type 0 = λ y. (n : Counters) → x.1 ≡ after_parameters n x.0 → y.1 ≡ after_parameters n y.0 in
-        after_all (expect leaves kinds.Identifier s) _ Q (λ name _. after_all (r.default_value leaves name.1) _ Q (λ default _.
+    named_parameter_draws kind export x s =
+        after_all (expect leaves kinds.Identifier s) _ (Drawn x) (λ name _. after_all (r.default_value leaves name.1) _ (Drawn x) (λ default _.
         let broken = parameter_broken (view default.1.run) rules x.0 (r.parameter_of leaves kind export (leaves.name name.0) default.0) in
-        after_all (obeying broken default.1) _ Q (λ checked _. number_counted kind export x name.0 default.0 checked.1)))
+        after_all (obeying broken default.1) _ (Drawn x) (λ checked _. binding_drawn x.1 checked.1 _ (Drawn x) (record { others = _ ∷ []; all_are = refl; counts = refl }))))
 
-    parameter_counts : (kind : ParameterKind) (x : ParameterPlace) → After x.0 (r.parameter leaves view rules kind x)
+    pub parameter_draws : (kind : ParameterKind) (x : ParameterPlace) → Draws x.0 (r.parameter leaves view rules kind x)
     unfolding r.parameter
-    parameter_counts kind x = named_parameter_counts kind (accepted leaves kinds.Dollar x.1).0 x.0 (accepted leaves kinds.Dollar x.1).1
+    parameter_draws kind x = named_parameter_draws kind (accepted leaves kinds.Dollar x.1).0 x.0 (accepted leaves kinds.Dollar x.1).1
 
-    singulars_rule_counts : (f : ParameterPlace → Read R T B Parameters) → ((x : ParameterPlace) → After x.0 (f x)) → (x : ParameterPlace)
-        → After x.0 (r.singulars_rule leaves view rules f x)
-    unfolding r.singulars_rule
-    singulars_rule_counts f h x =
-        let Q : Parameters → Type 0 = λ y. (n : Counters) → x.0.1 ≡ after_parameters n x.0.0 → y.1 ≡ after_parameters n y.0 in
-        after_test (r.begins_parameter leaves x.1) _ _ (After x.0)
-        (λ _. after_all (r.parameter leaves view rules Singular x) _ Q (λ p is. one_more x.0 p.0 (f p)
-        (known p (λ y. Q y.0) is (parameter_counts Singular x)) (h p)))
-        (λ _ n is. is)
-      where
-        one_more : (x p : Parameters) (found : Read R T B Parameters) → ((n : Counters) → x.1 ≡ after_parameters n x.0 → p.1 ≡ after_parameters n p.0)
-            → After p found → After x found
-        one_more x p (Ok y) h k = λ n is. k n (h n is)
-        one_more x p (Err e) h k = tt
+    pub singulars_draw : (x : ParameterPlace) → Draws x.0 (r.singulars leaves view rules x)
+    unfolding r.singulars r.singulars_rule
+    singulars_draw =
+        loop_has (λ x. x.1) (r.singulars_rule leaves view rules) (λ x found. Draws x.0 found) (λ x. tt) (λ f h x.
+        after_test (r.begins_parameter leaves x.1) _ _ (Draws x.0)
+        (λ _. draws_then x.0 (r.parameter leaves view rules Singular x) f (parameter_draws Singular x) h) (λ _. none_drawn x.0))
 
-    singulars_count : (x : ParameterPlace) → After x.0 (r.singulars leaves view rules x)
-    unfolding r.singulars
-    singulars_count =
-        recursive_keeps (λ (x : ParameterPlace). length x.1.left) (r.no_parameters leaves view rules) (r.singulars_rule leaves view rules)
-        (λ x found. After x.0 found) (λ x. tt) singulars_rule_counts
-
-    variadic_counts : (kind : ParameterKind) (x : ParameterPlace) → After x.0 (r.variadic leaves view rules kind x)
+    pub variadic_draws : (kind : ParameterKind) (x : ParameterPlace) → Draws x.0 (r.variadic leaves view rules kind x)
     unfolding r.variadic
-    variadic_counts kind x =
-        let Q : Parameters → Type 0 = λ y. (n : Counters) → x.0.1 ≡ after_parameters n x.0.0 → y.1 ≡ after_parameters n y.0 in
-        after_all (r.parameter leaves view rules kind x) _ Q (λ p is. after_all (r.expect_no_name leaves p.1) _ Q
-        (λ end _. known p (λ y. Q y.0) is (parameter_counts kind x)))
+    variadic_draws kind x =
+        draws_then x.0 (r.parameter leaves view rules kind x) _ (parameter_draws kind x) (λ p. draws_still p (r.expect_no_name leaves p.1))
 
-    last_parameter_counts : (x : ParameterPlace) → After x.0 (r.last_parameter leaves view rules x)
+    pub last_parameter_draws : (x : ParameterPlace) → Draws x.0 (r.last_parameter leaves view rules x)
     unfolding r.last_parameter
-    last_parameter_counts x =
-        let Q : Parameters → Type 0 = λ y. (n : Counters) → x.0.1 ≡ after_parameters n x.0.0 → y.1 ≡ after_parameters n y.0 in
-        after_choice (accept leaves kinds.Plus x.1) _ _ Q
-        (after_choice (accept leaves kinds.Asterisk x.1) _ _ Q (λ n is. is) (λ prefix. variadic_counts Star (x.0, prefix.1)))
-        (λ prefix. variadic_counts Plus (x.0, prefix.1))
+    last_parameter_draws x =
+        after_choice (accept leaves kinds.Plus x.1) _ _ (Drawn x.0)
+        (after_choice (accept leaves kinds.Asterisk x.1) _ _ (Drawn x.0) (none_drawn x.0) (λ prefix. variadic_draws Star (x.0, prefix.1)))
+        (λ prefix. variadic_draws Plus (x.0, prefix.1))
+
+    -- the last parameter and the colon
+    pub rest_draws : (p : ParameterPlace)
+        → Draws p.0 (r.last_parameter leaves view rules p >>= λ all. expect leaves kinds.Colon all.1 >>= λ colon. Ok (all.0, colon.1))
+    rest_draws p = draws_then p.0 (r.last_parameter leaves view rules p) _ (last_parameter_draws p) (λ all. draws_still all (expect leaves kinds.Colon all.1))
 
     abbrev pub ParametersCounted : Counters → Read R T B Parameters → Type 0
     ParametersCounted n found = IfOk found (λ x. x.0.1 ≡ after_parameters n x.0.0)
 
     pub parameters_count : (n : Counters) (s : State R T B) → ParametersCounted n (r.parameters leaves view rules n s)
     unfolding r.parameters
-    parameters_count n s =
-        let Q : Parameters → Type 0 = λ y. y.1 ≡ after_parameters n y.0 in
-        let I : Parameters → Parameters → Type 0 = λ x y. (n : Counters) → x.1 ≡ after_parameters n x.0 → y.1 ≡ after_parameters n y.0 in
-        after_all (r.singulars leaves view rules (([], n), s)) _ Q (λ ps is. after_all (r.last_parameter leaves view rules ps) _ Q (λ all is2.
-        after_all (expect leaves kinds.Colon all.1) _ Q (λ colon _.
-        known all (λ y. I ps.0 y.0) is2 (last_parameter_counts ps) n (known ps (λ y. I ([], n) y.0) is (singulars_count (([], n), s)) n refl))))
+    parameters_count n s = counted (r.singulars leaves view rules (([], n), s) >>= λ ps. _) (draws_then ([], n) _ _ (singulars_draw (([], n), s)) rest_draws)
+      where
+        counted : (found : Read R T B Parameters) → Draws ([], n) found → ParametersCounted n found
+        counted (Ok x) h = h.counts ∙ ap (λ ps. after_parameters n ps) (sym h.all_are)
+        counted (Err e) h = tt
 
     -- a header draws the numbers of its parameters
     pub header_counts : (n : Counters) (s : State R T B) → IfOk (r.header leaves view rules n s) (λ x. x.0.1 ≡ after_parameters n x.0.0.parameters)
@@ -224,38 +200,23 @@ module _ {R T A B S : Type 0} (leaves : Leaves R T A B S) where
   abbrev NamesCounted : Counters → Read R T B (List A × Counters) → Type 0
   NamesCounted n found = IfOk found (λ x. x.0.1 ≡ after_parameters n x.0.0)
 
-  -- the name of a parameter that got a number
-  abbrev name_with : T → (ℕ × Counters) × State R T B → Read R T B (A × Counters)
-  name_with name number = Ok ((leaves.function_parameter number.1.run name number.0.0, number.0.1), number.1)
-
   name_counts : (n : Counters) (s : State R T B) → IfOk (numbered_name leaves n s) (λ x. x.0.1 ≡ with_bindings (n.bindings + 1) n)
-  unfolding numbered_name next_binding_number
+  unfolding numbered_name
   name_counts n s =
       let Q : A × Counters → Type 0 = λ x. x.1 ≡ with_bindings (n.bindings + 1) n in
-      after_all (expect leaves kinds.Identifier s) _ Q (λ name _. drawn name.0 name.1 (leaves.has_number n.bindings))
-    where
-      drawn : (name : T) (t : State R T B) (b : Bool)
-          → IfOk (cond {A = Read R T B (ℕ × Counters)} b (Ok ((n.bindings, with_bindings (n.bindings + 1) n), t)) (Err (NoNumber n)) >>= name_with name)
-          (λ x. x.0.1 ≡ with_bindings (n.bindings + 1) n)
-      drawn name t true = refl
-      drawn name t false = tt
+      after_all (expect leaves kinds.Identifier s) _ Q (λ name _. binding_drawn n name.1 _ Q refl)
 
-  names_rule_counts : (f : Counters × State R T B → Read R T B (List A × Counters)) → ((x : Counters × State R T B) → NamesCounted x.0 (f x)) → (x : Counters × State R T B)
-      → NamesCounted x.0 (names_rule leaves f x)
-  unfolding names_rule names_end after_numbered
-  names_rule_counts f h x =
+  pub names_count : (x : Counters × State R T B) → NamesCounted x.0 (names leaves x)
+  unfolding names names_rule names_end after_numbered
+  names_count =
+      loop_has (λ x. x.1) (names_rule leaves) (λ x found. NamesCounted x.0 found) (λ x. tt) (λ f h x.
       let Q : List A × Counters → Type 0 = λ y. y.1 ≡ after_parameters x.0 y.0 in
       after_choice (accept leaves kinds.ParenR x.1) _ _ Q
       (after_all (numbered_name leaves x.0 x.1) _ Q (λ name is. after_all (choose (accept leaves kinds.Comma name.1) _ _) _ Q (λ more is2.
       known more (λ y. y.0.1 ≡ after_parameters name.0.1 y.0.0) is2 (after_choice (accept leaves kinds.Comma name.1) _ _ (λ y. y.1 ≡ after_parameters name.0.1 y.0)
       (after_all (expect leaves kinds.ParenR name.1) _ (λ y. y.1 ≡ after_parameters name.0.1 y.0) (λ closer _. refl)) (λ comma. h (name.0.1, comma.1)))
       ∙ ap (λ n. after_parameters n more.0.0) (known name (λ y. y.0.1 ≡ with_bindings (x.0.bindings + 1) x.0) is (name_counts x.0 x.1)))))
-      (λ closer. refl)
-
-  pub names_count : (x : Counters × State R T B) → NamesCounted x.0 (names leaves x)
-  unfolding names
-  names_count =
-      recursive_keeps (λ (x : Counters × State R T B). length x.1.left) (no_names leaves) (names_rule leaves) (λ x found. NamesCounted x.0 found) (λ x. tt) names_rule_counts
+      (λ closer. refl))
 
 module _ {R T A B S D W : Type 0} (leaves : Leaves R T A B S) (kept : AttributeLeaves R A B D W) where
   abbrev pub ItemCounted : Counters → Read R T B (Item A B ℕ S D × Counters) → Type 0
@@ -268,26 +229,13 @@ module _ {R T A B S D W : Type 0} (leaves : Leaves R T A B S) (kept : AttributeL
   abbrev pub Uncounted : Read R T B (List (Item A B ℕ S D)) → Type 0
   Uncounted found = IfOk found (λ x. (n : Counters) → counted n x.0 ≡ n)
 
-  binding_counted : (eager export : Bool) (ws : List W) (n : Counters) (s : State R T B) (name : T) (value : Expr A B)
-      → ItemCounted n (next_binding_number leaves n s >>= assigned leaves kept eager export ws name value)
-  unfolding next_binding_number
-  binding_counted eager export ws n s name value = go (leaves.has_number n.bindings)
-    where
-      go : (b : Bool)
-          → ItemCounted n (cond b (Ok ((n.bindings, with_bindings (n.bindings + 1) n), s)) (Err (NoNumber n)) >>= assigned leaves kept eager export ws name value)
-      go true = refl
-      go false = tt
-
   recipe_counted : (quiet : Bool) (ws : List W) (n : Counters) (s : State R T B) (h : ReadHeader T A B S) (m : Counters) (b : CommentedBody leaves)
       → m ≡ after_parameters n h.parameters → ItemCounted n (next_recipe_number leaves m s >>= headed leaves kept quiet ws h b)
   unfolding next_recipe_number
-  recipe_counted quiet ws n s h m b is = go (leaves.has_number m.recipes)
-    where
-      go : (has : Bool) → ItemCounted n (cond has (Ok ((m.recipes, with_recipes (m.recipes + 1) m), s)) (Err (NoNumber m)) >>= headed leaves kept quiet ws h b)
-      go true =
-          ap (λ (m : Counters). with_recipes (m.recipes + 1) m) is
-          ∙ ap (λ (k : ℕ). with_recipes (k + 1) (after_parameters n h.parameters)) (parameters_recipes n h.parameters)
-      go false = tt
+  recipe_counted quiet ws n s h m b is =
+      after_test (leaves.has_number m.recipes) _ _ (λ (o : Read R T B (ℕ × Counters)). ItemCounted n (o >>= headed leaves kept quiet ws h b))
+      (λ _. ap (λ (m : Counters). with_recipes (m.recipes + 1) m) is
+      ∙ ap (λ (k : ℕ). with_recipes (k + 1) (after_parameters n h.parameters)) (parameters_recipes n h.parameters)) (λ _. tt)
 
   abbrev Q : Counters → Item A B ℕ S D × Counters → Type 0
   Q n x = x.1 ≡ count n x.0
@@ -295,71 +243,60 @@ module _ {R T A B S D W : Type 0} (leaves : Leaves R T A B S) (kept : AttributeL
   alias_counts : (ws : List W) (n : Counters) (s : State R T B) → ItemCounted n (alias leaves kept ws n s)
   unfolding alias
   alias_counts ws n s =
-      after_all leaves (expect leaves kinds.Identifier s) _ (Q n) (λ name _. after_all leaves (expect leaves kinds.ColonEquals name.1) _ (Q n) (λ operator _.
-      after_all leaves (r.path leaves operator.1) _ (Q n) (λ target _. after_all leaves (check_allowed leaves kept item_kinds.Alias ws name.0 target.1) _ (Q n) (λ checked _. refl))))
+      after_all (expect leaves kinds.Identifier s) _ (Q n) (λ name _. after_all (expect leaves kinds.ColonEquals name.1) _ (Q n) (λ operator _.
+      after_all (r.path leaves operator.1) _ (Q n) (λ target _. after_all (check_allowed leaves kept item_kinds.Alias ws name.0 target.1) _ (Q n) (λ checked _. refl))))
 
   function_counts : (ws : List W) (n : Counters) (s : State R T B) → ItemCounted n (function leaves kept ws n s)
   unfolding function
   function_counts ws n s =
-      after_all leaves (expect leaves kinds.Identifier s) _ (Q n) (λ name _. after_all leaves (check_allowed leaves kept item_kinds.Function ws name.0 name.1) _ (Q n) (λ checked _.
-      after_all leaves (expect leaves kinds.ParenL checked.1) _ (Q n) (λ opener _. after_all leaves (names leaves (n, opener.1)) _ (Q n) (λ parameters is.
-      after_all leaves (expect leaves kinds.ColonEquals parameters.1) _ (Q n) (λ operator _. after_all leaves (expression leaves operator.1) _ (Q n) (λ body _.
+      after_all (expect leaves kinds.Identifier s) _ (Q n) (λ name _. after_all (check_allowed leaves kept item_kinds.Function ws name.0 name.1) _ (Q n) (λ checked _.
+      after_all (expect leaves kinds.ParenL checked.1) _ (Q n) (λ opener _. after_all (names leaves (n, opener.1)) _ (Q n) (λ parameters is.
+      after_all (expect leaves kinds.ColonEquals parameters.1) _ (Q n) (λ operator _. after_all (expression leaves operator.1) _ (Q n) (λ body _.
       known parameters (λ x. x.0.1 ≡ after_parameters n x.0.0) is (names_count leaves (n, opener.1))))))))
 
   imported_counts : (optional : Bool) (ws : List W) (n : Counters) (s : State R T B) → ItemCounted n (imported leaves kept optional ws n s)
   unfolding imported
   imported_counts optional ws n s =
-      after_all leaves (file_path leaves s) _ (Q n) (λ path _. after_all leaves (check_allowed leaves kept item_kinds.Import ws path.0.0 path.1) _ (Q n) (λ checked _. refl))
-
-  import_counts : (ws : List W) (n : Counters) (s : State R T B) → ItemCounted n (import leaves kept ws n s)
-  unfolding import
-  import_counts ws n s = imported_counts (accepted leaves kinds.QuestionMark s).0 ws n (accepted leaves kinds.QuestionMark s).1
+      after_all (file_path leaves s) _ (Q n) (λ path _. after_all (check_allowed leaves kept item_kinds.Import ws path.0.0 path.1) _ (Q n) (λ checked _. refl))
 
   named_module_counts : (optional : Bool) (ws : List W) (n : Counters) (s : State R T B) → ItemCounted n (named_module leaves kept optional ws n s)
   unfolding named_module
   named_module_counts optional ws n s =
-      after_all leaves (expect leaves kinds.Identifier s) _ (Q n) (λ name _. after_all leaves (optional_path leaves name.1) _ (Q n) (λ path _.
-      after_all leaves (check_allowed leaves kept item_kinds.Module ws name.0 path.1) _ (Q n) (λ checked _. refl)))
-
-  any_module_counts : (ws : List W) (n : Counters) (s : State R T B) → ItemCounted n (any_module leaves kept ws n s)
-  unfolding any_module
-  any_module_counts ws n s = named_module_counts (accepted leaves kinds.QuestionMark s).0 ws n (accepted leaves kinds.QuestionMark s).1
+      after_all (expect leaves kinds.Identifier s) _ (Q n) (λ name _. after_all (optional_path leaves name.1) _ (Q n) (λ path _.
+      after_all (check_allowed leaves kept item_kinds.Module ws name.0 path.1) _ (Q n) (λ checked _. refl)))
 
   setting_counts : (ws : List W) (n : Counters) (s : State R T B) → ItemCounted n (setting leaves kept ws n s)
   unfolding setting
   setting_counts ws n s =
-      after_all leaves (expect leaves kinds.Identifier s) _ (Q n) (λ name _. after_all leaves (setting_keyword leaves name.0 name.1) _ (Q n) (λ keyword _.
-      after_all leaves (check_allowed leaves kept item_kinds.Setting ws name.0 keyword.1) _ (Q n) (λ checked _.
-      after_all leaves (setting_value leaves kept.view name.0 keyword.0 (setting_form keyword.0) checked.1) _ (Q n) (λ value _. refl))))
+      after_all (expect leaves kinds.Identifier s) _ (Q n) (λ name _. after_all (setting_keyword leaves name.0 name.1) _ (Q n) (λ keyword _.
+      after_all (check_allowed leaves kept item_kinds.Setting ws name.0 keyword.1) _ (Q n) (λ checked _.
+      after_all (setting_value leaves kept.view name.0 keyword.0 (setting_form keyword.0) checked.1) _ (Q n) (λ value _. refl))))
 
   unexport_counts : (ws : List W) (n : Counters) (s : State R T B) → ItemCounted n (unexport leaves kept ws n s)
   unfolding unexport
   unexport_counts ws n s =
-      after_all leaves (expect leaves kinds.Identifier s) _ (Q n) (λ name _. after_all leaves (check_allowed leaves kept item_kinds.Unexport ws name.0 name.1) _ (Q n) (λ checked _. refl))
+      after_all (expect leaves kinds.Identifier s) _ (Q n) (λ name _. after_all (check_allowed leaves kept item_kinds.Unexport ws name.0 name.1) _ (Q n) (λ checked _. refl))
 
   pub assignment_counts : (eager export : Bool) (ws : List W) (n : Counters) (s : State R T B) → ItemCounted n (assignment leaves kept eager export ws n s)
   unfolding assignment
   assignment_counts eager export ws n s =
-      let Q : Item A B ℕ S D × Counters → Type 0 = λ x. x.1 ≡ count n x.0 in
-      after_all leaves (expect leaves kinds.Identifier s) _ Q (λ name _. after_all leaves (expect leaves kinds.ColonEquals name.1) _ Q (λ operator _.
-      after_all leaves (expression leaves operator.1) _ Q (λ e _. after_all leaves (check_allowed leaves kept item_kinds.Assignment ws name.0 e.1) _ Q (λ checked _.
-      binding_counted eager export ws n checked.1 name.0 e.0))))
+      after_all (expect leaves kinds.Identifier s) _ (Q n) (λ name _. after_all (expect leaves kinds.ColonEquals name.1) _ (Q n) (λ operator _.
+      after_all (expression leaves operator.1) _ (Q n) (λ e _. after_all (check_allowed leaves kept item_kinds.Assignment ws name.0 e.1) _ (Q n) (λ checked _.
+      binding_drawn leaves n checked.1 _ (Q n) refl))))
 
   pub recipe_counts : (quiet : Bool) (ws : List W) (n : Counters) (s : State R T B) → ItemCounted n (recipe leaves kept quiet ws n s)
   unfolding recipe
   recipe_counts quiet ws n s =
-      let Q : Item A B ℕ S D × Counters → Type 0 = λ x. x.1 ≡ count n x.0 in
       let rules = argument_rules leaves kept s.run ws in
-      after_all leaves (r.header leaves kept.view rules n s) _ Q (λ h is. after_all leaves (optional_body leaves h.1) _ Q (λ b _.
-      after_all leaves (check_exclusions leaves kept ws h.0.0.name b.1) _ Q (λ checked _.
+      after_all (r.header leaves kept.view rules n s) _ (Q n) (λ h is. after_all (optional_body leaves h.1) _ (Q n) (λ b _.
+      after_all (check_exclusions leaves kept ws h.0.0.name b.1) _ (Q n) (λ checked _.
       recipe_counted quiet ws n checked.1 h.0.0 h.0.1 b.0
       (known h (λ x. x.0.1 ≡ after_parameters n x.0.0.parameters) is (header_counts leaves kept.view rules n s)))))
 
   pub any_recipe_counts : (ws : List W) (n : Counters) (s : State R T B) → ItemCounted n (any_recipe leaves kept ws n s)
   unfolding any_recipe
   any_recipe_counts ws n s =
-      let Q : Item A B ℕ S D × Counters → Type 0 = λ x. x.1 ≡ count n x.0 in
-      after_choice leaves (accept leaves kinds.At s) _ _ Q (recipe_counts false ws n s) (λ at. recipe_counts true ws n at.1)
+      after_choice (accept leaves kinds.At s) _ _ (Q n) (recipe_counts false ws n s) (λ at. recipe_counts true ws n at.1)
 
   wordless_counts : (ws : List W) (n : Counters) (s : State R T B) → ItemCounted n (without_keyword leaves kept ws n s)
   unfolding without_keyword
@@ -368,19 +305,19 @@ module _ {R T A B S D W : Type 0} (leaves : Leaves R T A B S) (kept : AttributeL
       (λ _. after_test (peek_assignment leaves s) _ _ (ItemCounted n) (λ _. assignment_counts false false ws n s) (λ _. any_recipe_counts ws n s))
 
   content_counts : (ws : List W) (n : Counters) (s : State R T B) → ItemCounted n (content leaves kept ws n s)
-  unfolding content
+  unfolding content import any_module
   content_counts ws n s =
-      after_choice leaves (accept_keyword_before leaves (codes "alias") (peek_assignment leaves) s) _ _ (Q n)
-      (after_choice leaves (accept_keyword_before leaves (codes "eager") (peek_assignment leaves) s) _ _ (Q n)
-      (after_choice leaves (accept_keyword_before leaves (codes "export") (peek_assignment leaves) s) _ _ (Q n)
-      (after_choice leaves (accept_keyword_before leaves (codes "unexport") (line_is leaves (kinds.Identifier ∷ [])) s) _ _ (Q n)
-      (after_choice leaves (accept_keyword_before leaves (codes "import") (is_imported leaves) s) _ _ (Q n)
-      (after_choice leaves (accept_keyword_before leaves (codes "mod") (is_module leaves) s) _ _ (Q n)
-      (after_choice leaves (accept_keyword_before leaves (codes "set") (is_set leaves) s) _ _ (Q n)
+      after_choice (accept_keyword_before leaves (codes "alias") (peek_assignment leaves) s) _ _ (Q n)
+      (after_choice (accept_keyword_before leaves (codes "eager") (peek_assignment leaves) s) _ _ (Q n)
+      (after_choice (accept_keyword_before leaves (codes "export") (peek_assignment leaves) s) _ _ (Q n)
+      (after_choice (accept_keyword_before leaves (codes "unexport") (line_is leaves (kinds.Identifier ∷ [])) s) _ _ (Q n)
+      (after_choice (accept_keyword_before leaves (codes "import") (is_imported leaves) s) _ _ (Q n)
+      (after_choice (accept_keyword_before leaves (codes "mod") (is_module leaves) s) _ _ (Q n)
+      (after_choice (accept_keyword_before leaves (codes "set") (is_set leaves) s) _ _ (Q n)
       (wordless_counts ws n s)
       (λ word. setting_counts ws n word.1))
-      (λ word. any_module_counts ws n word.1))
-      (λ word. import_counts ws n word.1))
+      (λ word. named_module_counts (accepted leaves kinds.QuestionMark word.1).0 ws n (accepted leaves kinds.QuestionMark word.1).1))
+      (λ word. imported_counts (accepted leaves kinds.QuestionMark word.1).0 ws n (accepted leaves kinds.QuestionMark word.1).1))
       (λ word. unexport_counts ws n word.1))
       (λ word. assignment_counts false true ws n word.1))
       (λ word. assignment_counts true false ws n word.1))
@@ -388,26 +325,25 @@ module _ {R T A B S D W : Type 0} (leaves : Leaves R T A B S) (kept : AttributeL
 
   pub construct_counts : (n : Counters) (s : State R T B) → ItemCounted n (construct leaves kept n s)
   unfolding construct
-  construct_counts n s = after_all leaves (attributes leaves kept s) _ (Q n) (λ ws _. content_counts ws.0 n ws.1)
+  construct_counts n s = after_all (attributes leaves kept s) _ (Q n) (λ ws _. content_counts ws.0 n ws.1)
 
   pub on_line_counts : (n : Counters) (s : State R T B) → ItemCounted n (any_item leaves kept n s)
   unfolding any_item
   on_line_counts n s =
-      let Q : Item A B ℕ S D × Counters → Type 0 = λ x. x.1 ≡ count n x.0 in
-      after_choice leaves (accept leaves kinds.Comment s) _ _ Q (construct_counts n s) (λ c. refl)
+      after_choice (accept leaves kinds.Comment s) _ _ (Q n) (construct_counts n s) (λ c. refl)
 
   pub line_end_counts : (s : State R T B) → Uncounted (line_end leaves kept s)
   unfolding line_end
   line_end_counts s =
       let Q : List (Item A B ℕ S D) → Type 0 = λ x. (n : Counters) → counted n x ≡ n in
-      after_choice leaves (accept leaves kinds.Eof s) _ _ Q (after_all leaves (expect leaves kinds.Eol s) _ Q (λ newline _ n. refl)) (λ x n. refl)
+      after_choice (accept leaves kinds.Eof s) _ _ Q (after_all (expect leaves kinds.Eol s) _ Q (λ newline _ n. refl)) (λ x n. refl)
 
   pub item_rest_counts : (s : State R T B) → Uncounted (after_item leaves kept s)
   unfolding after_item
   item_rest_counts s =
       let Q : List (Item A B ℕ S D) → Type 0 = λ x. (n : Counters) → counted n x ≡ n in
-      after_choice leaves (accept leaves kinds.Comment s) _ _ Q (line_end_counts s)
-      (λ c. after_all leaves (line_end leaves kept c.1) _ Q (λ end is. known end (λ x. Q x.0) is (line_end_counts c.1)))
+      after_choice (accept leaves kinds.Comment s) _ _ Q (line_end_counts s)
+      (λ c. after_all (line_end leaves kept c.1) _ Q (λ end is. known end (λ x. Q x.0) is (line_end_counts c.1)))
 
   pub ended_counts : (b : Bool) (s : State R T B) → Uncounted (item_end leaves kept b s)
   unfolding item_end
@@ -417,8 +353,8 @@ module _ {R T A B S D W : Type 0} (leaves : Leaves R T A B S) (kept : AttributeL
   unfolding line
   line_counts n s =
       let Q : List (Item A B ℕ S D) × Counters → Type 0 = λ x. x.1 ≡ counted n x.0 in
-      after_choice leaves (accept leaves kinds.Eol s) _ _ Q
-      (after_all leaves (any_item leaves kept n s) _ Q (λ i is. after_all leaves (item_end leaves kept (has_body i.0.0) i.1) _ Q (λ b is2.
+      after_choice (accept leaves kinds.Eol s) _ _ Q
+      (after_all (any_item leaves kept n s) _ Q (λ i is. after_all (item_end leaves kept (has_body i.0.0) i.1) _ Q (λ b is2.
       known i (λ x. x.0.1 ≡ count n x.0.0) is (on_line_counts n s) ∙ sym (known b (λ x. (n : Counters) → counted n x.0 ≡ n) is2 (ended_counts (has_body i.0.0) i.1) (count n i.0.0)))))
       (λ newline. refl)
 
@@ -426,17 +362,14 @@ module _ {R T A B S D W : Type 0} (leaves : Leaves R T A B S) (kept : AttributeL
   end_counts n s [] = refl
   end_counts n s (t ∷ ts) = tt
 
-  rule_counts : (f : Start leaves kept → Read R T B (List (Item A B ℕ S D) × Counters)) → ((x : Start leaves kept) → Counted x.0 (f x)) → (x : Start leaves kept) → Counted x.0 (items_rule leaves kept f x)
-  unfolding items_rule after_numbered at_end
-  rule_counts f h x =
+  pub items_count : (n : Counters) (s : State R T B) → Counted n (items leaves kept n s)
+  unfolding items_from items_rule after_numbered at_end
+  items_count n s =
+      loop_has (λ x. x.1) (items_rule leaves kept) (λ x found. Counted x.0 found) (λ x. tt) (λ f h x.
       let Q : List (Item A B ℕ S D) × Counters → Type 0 = λ y. y.1 ≡ counted x.0 y.0 in
-      after_choice leaves (accept leaves kinds.Eof x.1) _ _ Q
-      (after_all leaves (line leaves kept x.0 x.1) _ Q (λ l is. after_all leaves (f (l.0.1, l.1)) _ Q (λ more is2.
+      after_choice (accept leaves kinds.Eof x.1) _ _ Q
+      (after_all (line leaves kept x.0 x.1) _ Q (λ l is. after_all (f (l.0.1, l.1)) _ Q (λ more is2.
       known more (λ y. y.0.1 ≡ counted l.0.1 y.0.0) is2 (h (l.0.1, l.1))
       ∙ ap (λ n. counted n more.0.0) (known l (λ y. y.0.1 ≡ counted x.0 y.0.0) is (line_counts x.0 x.1))
       ∙ sym (counted_both x.0 l.0.0 more.0.0))))
-      (λ end. end_counts x.0 end.1 end.1.left)
-
-  pub items_count : (n : Counters) (s : State R T B) → Counted n (items leaves kept n s)
-  unfolding items_from
-  items_count n s = recursive_keeps (λ x. length x.1.left) (no_items leaves kept) (items_rule leaves kept) (λ x found. Counted x.0 found) (λ x. tt) rule_counts (n, s)
+      (λ end. end_counts x.0 end.1 end.1.left)) (n, s)

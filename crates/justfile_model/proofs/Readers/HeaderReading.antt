@@ -1,5 +1,5 @@
 -- The parser of headers, one rule at a time, and the steps of its loops.
-use Rattle.std.proofs.Common.{◌≡◌, ℕ, Bool, true, false, List, [], ◌∷◌, ◌++◌, length, map, Option, Some, None, Ok, Err, refl, sym, ap}
+use Rattle.std.proofs.Common.{◌≡◌, ℕ, Bool, true, false, List, [], ◌∷◌, ◌++◌, map, Option, Some, None, Ok, Err, refl, sym, ap}
 use Rattle.std.specs.Option.{option_map}
 use Rattle.justfile_vocabulary.specs.declared.token_kind.TokenKind.{TokenKind}
 use Rattle.justfile_vocabulary.specs.declared.token_kind.TokenKind.TheVariants as kinds
@@ -9,15 +9,14 @@ use Rattle.justfile_model.specs.declared.parameter_kind.ParameterKind.TheVariant
 use Rattle.justfile_model.specs.Readers.ExpressionReader as expressions
 use Rattle.justfile_model.specs.Readers.HeaderReader as r
 use Rattle.justfile_model.specs.Readers.HeaderReader.{ReadHeader, next_binding_number, obeying}
-use Rattle.justfile_model.specs.Readers.ReaderState.{Counters, Leaves, Read, ReadError, State, Taken, accept, accepted, expect, next_are, prepend, taken_or}
+use Rattle.justfile_model.specs.Readers.ReaderState.{Counters, Leaves, ReadError, State, Taken, accept, accepted, expect, next_are, prepend, taken_or}
 use Rattle.justfile_model.specs.Meanings.RecipeRules.{misplaced_broken, parameter_broken, second_broken, stars, undefined_broken}
 use Rattle.justfile_model.specs.Meanings.Rules.{Broken}
 use Rattle.justfile_model.specs.Trees.LeafView.{LeafView}
 use Rattle.justfile_model.specs.Trees.Tree.{ArgumentRules, Dependency, DependencyArgument}
 use Rattle.justfile_model.proofs.Readers.ExpressionReading.{advances, level_is}
 use Rattle.justfile_model.proofs.Lists.Prepended.{after_keeps, after_nothing, after_refused, after_regroups}
-use Rattle.justfile_model.proofs.Readers.ReadingSteps.{ItemRest, Goes, Keeps, Past, accepts, after_test, bind_alike, choose_alike, either, either_goes, expects, first, goes_after, keeps, past, past_then, test_alike, then, then_goes, there, weaken}
-use Rattle.justfile_model.proofs.Lists.Turns.{recursive_keeps, recursive_step}
+use Rattle.justfile_model.proofs.Readers.ReadingSteps.{Goes, ItemRest, Keeps, Past, accepts, after_test, bind_alike, choose_alike, either, either_goes, expects, first, goes_after, keeps, loop_goes, loop_is, loop_keeps, past, past_then, test_alike, then, then_goes, there, weaken}
 
 module _ {R T B : Type 0} where
   -- rules take no token
@@ -52,23 +51,18 @@ module _ {R T A B S : Type 0} (leaves : Leaves R T A B S) where
 
   -- ---- paths
 
-  path_rest_rule_keeps : (f : State R T B → Read R T B (List A)) → ((s : State R T B) → Keeps s (f s)) → (s : State R T B) → Keeps s (r.path_rest_rule leaves f s)
-  unfolding r.path_rest_rule
-  path_rest_rule_keeps f h s =
+  pub path_rest_keeps : (s : State R T B) → Keeps s (r.path_rest leaves s)
+  unfolding r.path_rest r.path_rest_rule
+  path_rest_keeps =
+      loop_keeps (λ s. s) (r.path_rest_rule leaves) (λ f h s.
       either s (accept leaves kinds.ColonColon s) _ _ (accepts leaves kinds.ColonColon s) (there s) (λ colons.
       then colons.1 (expect leaves kinds.Identifier colons.1) _ (keeps colons.1 _ (expects leaves kinds.Identifier colons.1))
-      (λ name. after_keeps (leaves.name name.0 ∷ []) name.1 (f name.1) (h name.1)))
-
-  pub path_rest_keeps : (s : State R T B) → Keeps s (r.path_rest leaves s)
-  unfolding r.path_rest
-  path_rest_keeps =
-      recursive_keeps (λ (s : State R T B). length s.left) (r.no_names leaves) (r.path_rest_rule leaves) (λ s found. Keeps s found) (λ s. tt)
-      path_rest_rule_keeps
+      (λ name. after_keeps (leaves.name name.0 ∷ []) name.1 (f name.1) (h name.1))))
 
   pub path_rest_is : (s : State R T B) → r.path_rest leaves s ≡ r.path_rest_rule leaves (r.path_rest leaves) s
   unfolding r.path_rest r.path_rest_rule
   path_rest_is s =
-      recursive_step (λ (s : State R T B). length s.left) (r.no_names leaves) (r.path_rest_rule leaves) (λ s f g same.
+      loop_is (λ s. s) (r.path_rest_rule leaves) (λ s f g same.
       choose_alike (accept leaves kinds.ColonColon s) _ _ _ _ (λ _. refl)
       (λ colons taken. bind_alike (expect leaves kinds.Identifier colons.1) _ _ (λ name is.
       ap (prepend (leaves.name name.0 ∷ [])) (same name.1
@@ -83,10 +77,6 @@ module _ {R T A B S : Type 0} (leaves : Leaves R T A B S) where
 
   -- ---- arguments of dependencies
 
-  pub plain_argument_goes : (s : State R T B) → Goes s (r.plain_argument leaves s)
-  unfolding r.plain_argument
-  plain_argument_goes s = first s (r.expression leaves s) _ (expression_goes s) (λ e. there e.1)
-
   pub starred_argument_goes : (before : List (DependencyArgument A B T)) (star : T) (s : State R T B) → Goes s (r.starred_argument leaves before star s)
   unfolding r.starred_argument
   starred_argument_goes before star s =
@@ -95,35 +85,26 @@ module _ {R T A B S : Type 0} (leaves : Leaves R T A B S) where
       (λ checked. first checked.1 (expressions.value leaves checked.1) _ (value_goes checked.1) (λ e. there e.1))
 
   pub dependency_argument_goes : (before : List (DependencyArgument A B T)) (s : State R T B) → Goes s (r.dependency_argument leaves before s)
-  unfolding r.dependency_argument
+  unfolding r.dependency_argument r.plain_argument
   dependency_argument_goes before s =
-      either_goes s (accept leaves kinds.Asterisk s) _ _ (accepts leaves kinds.Asterisk s) (plain_argument_goes s)
+      either_goes s (accept leaves kinds.Asterisk s) _ _ (accepts leaves kinds.Asterisk s) (first s (r.expression leaves s) _ (expression_goes s) (λ e. there e.1))
       (λ star. keeps star.1 _ (starred_argument_goes before star.0 star.1))
 
   abbrev pub DependencyPlace : Type 0
   DependencyPlace = r.DependencyPlace leaves
 
-  abbrev Arguments : Type 0
-  Arguments = List (DependencyArgument A B T)
-
-  dependency_arguments_rule_go : (f : DependencyPlace → Read R T B Arguments) → ((x : DependencyPlace) → Goes x.1 (f x)) → (x : DependencyPlace)
-      → Goes x.1 (r.dependency_arguments_rule leaves f x)
-  unfolding r.dependency_arguments_rule
-  dependency_arguments_rule_go f h x =
+  pub dependency_arguments_go : (x : DependencyPlace) → Goes x.1 (r.dependency_arguments leaves x)
+  unfolding r.dependency_arguments r.dependency_arguments_rule
+  dependency_arguments_go =
+      loop_goes (λ x. x.1) (r.dependency_arguments_rule leaves) (λ f h x.
       either_goes x.1 (accept leaves kinds.ParenR x.1) _ _ (accepts leaves kinds.ParenR x.1)
       (first x.1 (r.dependency_argument leaves x.0 x.1) _ (dependency_argument_goes x.0 x.1) (λ a. keeps a.1 _ (h (x.0 ++ a.0 ∷ [], a.1))))
-      (λ closer. there closer.1)
-
-  pub dependency_arguments_go : (x : DependencyPlace) → Goes x.1 (r.dependency_arguments leaves x)
-  unfolding r.dependency_arguments
-  dependency_arguments_go =
-      recursive_keeps (λ (x : DependencyPlace). length x.1.left) (r.no_dependency_arguments leaves) (r.dependency_arguments_rule leaves)
-      (λ x found. Goes x.1 found) (λ x. tt) dependency_arguments_rule_go
+      (λ closer. there closer.1))
 
   pub dependency_arguments_is : (x : DependencyPlace) → r.dependency_arguments leaves x ≡ r.dependency_arguments_rule leaves (r.dependency_arguments leaves) x
   unfolding r.dependency_arguments r.dependency_arguments_rule
   dependency_arguments_is x =
-      recursive_step (λ (x : DependencyPlace). length x.1.left) (r.no_dependency_arguments leaves) (r.dependency_arguments_rule leaves) (λ x f g same.
+      loop_is (λ x. x.1) (r.dependency_arguments_rule leaves) (λ x f g same.
       choose_alike (accept leaves kinds.ParenR x.1) _ _ _ _
       (λ _. bind_alike (r.dependency_argument leaves x.0 x.1) _ _
       (λ a is. same (x.0 ++ a.0 ∷ [], a.1) (past x.1 _ a (dependency_argument_goes x.0 x.1) is).0))
@@ -154,24 +135,18 @@ module _ {R T A B S : Type 0} (leaves : Leaves R T A B S) where
   abbrev Dependencies : Type 0
   Dependencies = List (Dependency A B S)
 
-  dependencies_rule_keeps : (f : State R T B → Read R T B Dependencies) → ((s : State R T B) → Keeps s (f s)) → (s : State R T B)
-      → Keeps s (r.dependencies_rule leaves f s)
-  unfolding r.dependencies_rule
-  dependencies_rule_keeps f h s =
+  pub dependencies_keep : (s : State R T B) → Keeps s (r.dependencies leaves s)
+  unfolding r.dependencies r.dependencies_rule
+  dependencies_keep =
+      loop_keeps (λ s. s) (r.dependencies_rule leaves) (λ f h s.
       after_test (r.begins_dependency leaves s) _ _ (Keeps {X = Dependencies} s)
       (λ _. then s (r.dependency leaves s) _ (keeps s _ (dependency_goes s)) (λ d. after_keeps (d.0 ∷ []) d.1 (f d.1) (h d.1)))
-      (λ _. there s)
-
-  pub dependencies_keep : (s : State R T B) → Keeps s (r.dependencies leaves s)
-  unfolding r.dependencies
-  dependencies_keep =
-      recursive_keeps (λ (s : State R T B). length s.left) (r.no_dependencies leaves) (r.dependencies_rule leaves) (λ s found. Keeps s found) (λ s. tt)
-      dependencies_rule_keeps
+      (λ _. there s))
 
   pub dependencies_is : (s : State R T B) → r.dependencies leaves s ≡ r.dependencies_rule leaves (r.dependencies leaves) s
   unfolding r.dependencies r.dependencies_rule
   dependencies_is s =
-      recursive_step (λ (s : State R T B). length s.left) (r.no_dependencies leaves) (r.dependencies_rule leaves) (λ s f g same.
+      loop_is (λ s. s) (r.dependencies_rule leaves) (λ s f g same.
       test_alike (r.begins_dependency leaves s) _ _ _ _
       (λ _. bind_alike (r.dependency leaves s) _ _
       (λ d is. ap (prepend (d.0 ∷ [])) (same d.1 (past s _ d (dependency_goes s) is).0)))
@@ -222,24 +197,18 @@ module _ {R T A B S : Type 0} (leaves : Leaves R T A B S) where
         let dollar : Bool × State R T B = accepted leaves kinds.Dollar x.1 in
         goes_after x.1 dollar.1 _ (accepted_keeps kinds.Dollar x.1) (named_parameter_goes kind dollar.0 x.0 dollar.1)
 
-    singulars_rule_keeps : (f : ParameterPlace → Read R T B Parameters) → ((x : ParameterPlace) → Keeps x.1 (f x)) → (x : ParameterPlace)
-        → Keeps x.1 (r.singulars_rule leaves view rules f x)
-    unfolding r.singulars_rule
-    singulars_rule_keeps f h x =
+    pub singulars_keep : (x : ParameterPlace) → Keeps x.1 (r.singulars leaves view rules x)
+    unfolding r.singulars r.singulars_rule
+    singulars_keep =
+        loop_keeps (λ x. x.1) (r.singulars_rule leaves view rules) (λ f h x.
         after_test (r.begins_parameter leaves x.1) _ _ (Keeps {X = Parameters} x.1)
         (λ _. then x.1 (r.parameter leaves view rules Singular x) _ (keeps x.1 _ (parameter_goes Singular x)) (λ p. h p))
-        (λ _. there x.1)
-
-    pub singulars_keep : (x : ParameterPlace) → Keeps x.1 (r.singulars leaves view rules x)
-    unfolding r.singulars
-    singulars_keep =
-        recursive_keeps (λ (x : ParameterPlace). length x.1.left) (r.no_parameters leaves view rules) (r.singulars_rule leaves view rules)
-        (λ x found. Keeps x.1 found) (λ x. tt) singulars_rule_keeps
+        (λ _. there x.1))
 
     pub singulars_is : (x : ParameterPlace) → r.singulars leaves view rules x ≡ r.singulars_rule leaves view rules (r.singulars leaves view rules) x
     unfolding r.singulars r.singulars_rule
     singulars_is x =
-        recursive_step (λ (x : ParameterPlace). length x.1.left) (r.no_parameters leaves view rules) (r.singulars_rule leaves view rules) (λ x f g same.
+        loop_is (λ x. x.1) (r.singulars_rule leaves view rules) (λ x f g same.
         test_alike (r.begins_parameter leaves x.1) _ _ _ _
         (λ _. bind_alike (r.parameter leaves view rules Singular x) _ _
         (λ p is. same p (past x.1 _ p (parameter_goes Singular x) is).0))
@@ -268,15 +237,11 @@ module _ {R T A B S : Type 0} (leaves : Leaves R T A B S) where
 
     -- ---- headers
 
-    pub distinct_options_keep : (name : T) (s : State R T B) → Keeps s (r.distinct_options leaves view rules name s)
-    unfolding r.distinct_options
-    distinct_options_keep name s = obeying_keeps _ _
-
     pub header_goes : (n : Counters) (s : State R T B) → Goes s (r.header leaves view rules n s)
-    unfolding r.header
+    unfolding r.header r.distinct_options
     header_goes n s =
         first s (expect leaves kinds.Identifier s) _ (expects leaves kinds.Identifier s) (λ name.
-        then name.1 (r.distinct_options leaves view rules name.0 name.1) _ (distinct_options_keep name.0 name.1) (λ options.
+        then name.1 (r.distinct_options leaves view rules name.0 name.1) _ (obeying_keeps _ _) (λ options.
         then options.1 (r.parameters leaves view rules n options.1) _ (keeps options.1 _ (parameters_go n options.1)) (λ ps.
         let broken = undefined_broken (view ps.1.run) ps.0.0 rules in
         then ps.1 (obeying broken ps.1) _ (obeying_keeps broken ps.1) (λ checked.

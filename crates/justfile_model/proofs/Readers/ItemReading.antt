@@ -1,7 +1,6 @@
 -- The parser of items and bodies, one rule at a time, and the steps of its loops.
-use Rattle.std.proofs.Common.{◌≡◌, ℕ, true, false, Bool, ◌&&◌, cond, List, [], ◌∷◌, ◌++◌, length, drop, Option, Some, None, Ok, Err, codes, refl, sym, ap, arith}
+use Rattle.std.proofs.Common.{◌≡◌, ℕ, true, false, Bool, ◌&&◌, cond, List, [], ◌∷◌, ◌++◌, drop, Option, Some, None, Ok, Err, codes, refl, sym, ap, arith}
 use Rattle.std.proofs.lemmas.List.{append-nil, append_assoc, length-drop}
-use Rattle.justfile_vocabulary.specs.declared.item_kind.ItemKind.{ItemKind}
 use Rattle.justfile_vocabulary.specs.declared.item_kind.ItemKind.TheVariants as item_kinds
 use Rattle.justfile_vocabulary.specs.declared.token_kind.TokenKind.{TokenKind}
 use Rattle.justfile_vocabulary.specs.declared.token_kind.TokenKind.TheVariants as kinds
@@ -10,7 +9,7 @@ use Rattle.justfile_model.specs.Readers.HeaderReader.{next_binding_number, expre
 use Rattle.justfile_model.specs.Readers.PartReader.{accept_keyword_before, after_numbered, file_path, peek_assignment, is_imported, is_module, is_set, setting_keyword, line_is, names, optional_path, setting_value}
 use Rattle.justfile_model.specs.Grammars.Settings.{setting_form}
 use Rattle.justfile_model.specs.Grammars.Expressions.{front}
-use Rattle.justfile_model.specs.Readers.Reader.{CommentedBody, alias, check_allowed, any_module, any_recipe, argument_rules, assignment, at_end, attributes, before_item, body, body_after, body_line, construct, content, next_recipe_number, item_end, fragment, function, has_body, import, imported, after_item, items, items_from, items_rule, line, line_end, line_rest, line_rest_rule, lines, lines_rule, named_module, check_exclusions, no_items, no_line_rest, no_lines, any_item, optional_body, recipe, setting, some_lines, stands_alone, unexport, without_keyword}
+use Rattle.justfile_model.specs.Readers.Reader.{CommentedBody, alias, check_allowed, any_module, any_recipe, argument_rules, assignment, at_end, attributes, before_item, body, body_after, body_line, construct, content, next_recipe_number, item_end, fragment, function, has_body, import, imported, after_item, items, items_from, items_rule, line, line_end, line_rest, line_rest_rule, lines, lines_rule, named_module, check_exclusions, any_item, optional_body, recipe, setting, some_lines, stands_alone, unexport, without_keyword}
 use Rattle.justfile_model.specs.Readers.ReaderState.{◌>>=◌, Counters, Leaves, Read, ReadError, State, Taken, accept, accept_by, accepted, prepend, at, begin_with, choose, expect, next_are, same_kind}
 use Rattle.justfile_model.specs.Trees.Tree.{Fragment, BodyLine, Item, trimmed}
 use Rattle.justfile_model.proofs.Readers.AttributeReading.{attribute_lines_keep}
@@ -19,8 +18,7 @@ pub use Rattle.justfile_model.proofs.Readers.HeaderReading.{binding_keeps, expre
 use Rattle.justfile_model.proofs.Readers.PartReading.{accepts_before, file_path_goes, keyword_at_keeps, names_go, optional_path_keeps, setting_value_keeps}
 use Rattle.justfile_model.proofs.Lists.Prepended.{after_goes, after_keeps}
 pub use Rattle.justfile_model.proofs.Lists.Prepended.{after_begin, after_nothing, after_refused, after_regroups}
-use Rattle.justfile_model.proofs.Readers.ReadingSteps.{ItemRest, Goes, Keeps, accepts, after_test, bind_alike, choose_alike, either, either_goes, expects, first, from_there, goes_after, keeps, past, test_alike, then, then_goes, there}
-use Rattle.justfile_model.proofs.Lists.Turns.{recursive_keeps, recursive_step}
+use Rattle.justfile_model.proofs.Readers.ReadingSteps.{Goes, ItemRest, Keeps, accepts, after_test, bind_alike, choose_alike, either, either_goes, expects, first, from_there, goes_after, keeps, loop_goes, loop_is, loop_keeps, past, test_alike, then, then_goes, there}
 
 -- ---- what was read before, and what is read after it
 
@@ -60,24 +58,21 @@ module _ {R T A B S : Type 0} (leaves : Leaves R T A B S) where
       (λ t. there t.1)
 
   -- the end of a body is left
-  line_rest_rule_keeps : (f : State R T B → Read R T B (List (Fragment A B))) → ((s : State R T B) → Keeps s (f s)) → (s : State R T B) → Keeps s (line_rest_rule leaves f s)
-  unfolding line_rest_rule
-  line_rest_rule_keeps f h s =
+  pub line_rest_keeps : (s : State R T B) → Keeps s (line_rest leaves s)
+  unfolding line_rest line_rest_rule
+  line_rest_keeps =
+      loop_keeps (λ s. s) (line_rest_rule leaves) (λ f h s.
       either s (accept leaves kinds.Eol s) _ _ (accepts leaves kinds.Eol s)
       (after_test (next_are leaves (kinds.Dedent ∷ []) s) _ _ (Keeps {X = List (Fragment A B)} s) (λ _. there s)
       (λ _. then s (fragment leaves s) _ (keeps s _ (fragment_goes s)) (λ x. after_keeps (x.0 ∷ []) x.1 (f x.1) (h x.1))))
-      (λ newline. there newline.1)
-
-  pub line_rest_keeps : (s : State R T B) → Keeps s (line_rest leaves s)
-  unfolding line_rest
-  line_rest_keeps = recursive_keeps (λ s. length s.left) (no_line_rest leaves) (line_rest_rule leaves) (λ s found. Keeps s found) (λ s. tt) line_rest_rule_keeps
+      (λ newline. there newline.1))
 
   -- ---- the rule of lines of a body
 
   pub line_rest_is : (s : State R T B) → line_rest leaves s ≡ line_rest_rule leaves (line_rest leaves) s
   unfolding line_rest line_rest_rule
   line_rest_is s =
-      recursive_step (λ s. length s.left) (no_line_rest leaves) (line_rest_rule leaves) (λ s f g same.
+      loop_is (λ s. s) (line_rest_rule leaves) (λ s f g same.
       choose_alike (accept leaves kinds.Eol s) _ _ _ _
       (λ _. test_alike (next_are leaves (kinds.Dedent ∷ []) s) _ _ _ _ (λ _. refl)
       (λ _. bind_alike (fragment leaves s) _ _ (λ f is. ap (prepend (f.0 ∷ [])) (same f.1 (past s _ f (fragment_goes s) is).0))))
@@ -113,21 +108,18 @@ module _ {R T A B S : Type 0} (leaves : Leaves R T A B S) where
   unfolding body_line
   body_line_keeps s = then s (line_rest leaves s) _ (line_rest_keeps s) (λ x. there x.1)
 
-  lines_rule_go : (f : State R T B → Read R T B (List (BodyLine A B ℕ))) → ((s : State R T B) → Goes s (f s)) → (s : State R T B) → Goes s (lines_rule leaves f s)
-  unfolding lines_rule
-  lines_rule_go f h s =
+  pub lines_go : (s : State R T B) → Goes s (lines leaves s)
+  unfolding lines lines_rule
+  lines_go =
+      loop_goes (λ s. s) (lines_rule leaves) (λ f h s.
       either_goes s (accept leaves kinds.Dedent s) _ _ (accepts leaves kinds.Dedent s)
       (then_goes s (body_line leaves s) _ (body_line_keeps s) (λ x. after_goes (x.0 ∷ []) x.1 (f x.1) (h x.1)))
-      (λ end. there end.1)
-
-  pub lines_go : (s : State R T B) → Goes s (lines leaves s)
-  unfolding lines
-  lines_go = recursive_keeps (λ s. length s.left) (no_lines leaves) (lines_rule leaves) (λ s found. Goes s found) (λ s. tt) lines_rule_go
+      (λ end. there end.1))
 
   pub lines_is : (s : State R T B) → lines leaves s ≡ lines_rule leaves (lines leaves) s
   unfolding lines lines_rule
   lines_is s =
-      recursive_step (λ s. length s.left) (no_lines leaves) (lines_rule leaves) (λ s f g same.
+      loop_is (λ s. s) (lines_rule leaves) (λ s f g same.
       choose_alike (accept leaves kinds.Dedent s) _ _ _ _
       (λ not. bind_alike (body_line leaves s) _ _ (λ l is. ap (prepend (l.0 ∷ [])) (same l.1 (past s _ l (body_line_goes s not) is).0)))
       (λ _ _. refl)) s
@@ -208,25 +200,19 @@ module _ {R T A B S : Type 0} (leaves : Leaves R T A B S) where
 module _ {R T A B S D W : Type 0} (leaves : Leaves R T A B S) (kept : AttributeLeaves R A B D W) where
   -- ---- items
 
-  allowed_keeps : (item : ItemKind) (ws : List W) (name : T) (s : State R T B) → Keeps s (check_allowed leaves kept item ws name s)
-  allowed_keeps item ws name s = obeying_keeps _ s
-
-  no_exclusion_keeps : (ws : List W) (name : T) (s : State R T B) → Keeps s (check_exclusions leaves kept ws name s)
-  no_exclusion_keeps ws name s = obeying_keeps _ s
-
   pub alias_goes : (ws : List W) (n : Counters) (s : State R T B) → Goes s (alias leaves kept ws n s)
   unfolding alias
   alias_goes ws n s =
       first s (expect leaves kinds.Identifier s) _ (expects leaves kinds.Identifier s) (λ name.
       then name.1 (expect leaves kinds.ColonEquals name.1) _ (keeps name.1 _ (expects leaves kinds.ColonEquals name.1)) (λ operator.
       then operator.1 (path leaves operator.1) _ (keeps operator.1 _ (path_goes leaves operator.1)) (λ target.
-      then target.1 (check_allowed leaves kept item_kinds.Alias ws name.0 target.1) _ (allowed_keeps item_kinds.Alias ws name.0 target.1) (λ checked. there checked.1))))
+      then target.1 (check_allowed leaves kept item_kinds.Alias ws name.0 target.1) _ (obeying_keeps _ target.1) (λ checked. there checked.1))))
 
   pub function_goes : (ws : List W) (n : Counters) (s : State R T B) → Goes s (function leaves kept ws n s)
   unfolding function
   function_goes ws n s =
       first s (expect leaves kinds.Identifier s) _ (expects leaves kinds.Identifier s) (λ name.
-      then name.1 (check_allowed leaves kept item_kinds.Function ws name.0 name.1) _ (allowed_keeps item_kinds.Function ws name.0 name.1) (λ checked.
+      then name.1 (check_allowed leaves kept item_kinds.Function ws name.0 name.1) _ (obeying_keeps _ name.1) (λ checked.
       then checked.1 (expect leaves kinds.ParenL checked.1) _ (keeps checked.1 _ (expects leaves kinds.ParenL checked.1)) (λ opener.
       then opener.1 (names leaves (n, opener.1)) _ (keeps opener.1 _ (names_go leaves (n, opener.1))) (λ parameters.
       then parameters.1 (expect leaves kinds.ColonEquals parameters.1) _ (keeps parameters.1 _ (expects leaves kinds.ColonEquals parameters.1)) (λ operator.
@@ -236,7 +222,7 @@ module _ {R T A B S D W : Type 0} (leaves : Leaves R T A B S) (kept : AttributeL
   unfolding imported
   imported_goes optional ws n s =
       first s (file_path leaves s) _ (file_path_goes leaves s) (λ path.
-      then path.1 (check_allowed leaves kept item_kinds.Import ws path.0.0 path.1) _ (allowed_keeps item_kinds.Import ws path.0.0 path.1) (λ checked. there checked.1))
+      then path.1 (check_allowed leaves kept item_kinds.Import ws path.0.0 path.1) _ (obeying_keeps _ path.1) (λ checked. there checked.1))
 
   pub import_goes : (ws : List W) (n : Counters) (s : State R T B) → Goes s (import leaves kept ws n s)
   unfolding import
@@ -249,7 +235,7 @@ module _ {R T A B S D W : Type 0} (leaves : Leaves R T A B S) (kept : AttributeL
   named_module_goes optional ws n s =
       first s (expect leaves kinds.Identifier s) _ (expects leaves kinds.Identifier s) (λ name.
       then name.1 (optional_path leaves name.1) _ (optional_path_keeps leaves name.1) (λ path.
-      then path.1 (check_allowed leaves kept item_kinds.Module ws name.0 path.1) _ (allowed_keeps item_kinds.Module ws name.0 path.1) (λ checked. there checked.1)))
+      then path.1 (check_allowed leaves kept item_kinds.Module ws name.0 path.1) _ (obeying_keeps _ path.1) (λ checked. there checked.1)))
 
   pub any_module_goes : (ws : List W) (n : Counters) (s : State R T B) → Goes s (any_module leaves kept ws n s)
   unfolding any_module
@@ -262,7 +248,7 @@ module _ {R T A B S D W : Type 0} (leaves : Leaves R T A B S) (kept : AttributeL
   setting_goes ws n s =
       first s (expect leaves kinds.Identifier s) _ (expects leaves kinds.Identifier s) (λ name.
       then name.1 (setting_keyword leaves name.0 name.1) _ (keyword_at_keeps leaves name.0 name.1) (λ keyword.
-      then keyword.1 (check_allowed leaves kept item_kinds.Setting ws name.0 keyword.1) _ (allowed_keeps item_kinds.Setting ws name.0 keyword.1) (λ checked.
+      then keyword.1 (check_allowed leaves kept item_kinds.Setting ws name.0 keyword.1) _ (obeying_keeps _ keyword.1) (λ checked.
       then checked.1 (setting_value leaves kept.view name.0 keyword.0 (setting_form keyword.0) checked.1) _
       (setting_value_keeps leaves kept.view name.0 keyword.0 (setting_form keyword.0) checked.1) (λ value. there value.1))))
 
@@ -270,7 +256,7 @@ module _ {R T A B S D W : Type 0} (leaves : Leaves R T A B S) (kept : AttributeL
   unfolding unexport
   unexport_goes ws n s =
       first s (expect leaves kinds.Identifier s) _ (expects leaves kinds.Identifier s) (λ name.
-      then name.1 (check_allowed leaves kept item_kinds.Unexport ws name.0 name.1) _ (allowed_keeps item_kinds.Unexport ws name.0 name.1) (λ checked. there checked.1))
+      then name.1 (check_allowed leaves kept item_kinds.Unexport ws name.0 name.1) _ (obeying_keeps _ name.1) (λ checked. there checked.1))
 
   pub assignment_goes : (eager export : Bool) (ws : List W) (n : Counters) (s : State R T B) → Goes s (assignment leaves kept eager export ws n s)
   unfolding assignment
@@ -278,7 +264,7 @@ module _ {R T A B S D W : Type 0} (leaves : Leaves R T A B S) (kept : AttributeL
       first s (expect leaves kinds.Identifier s) _ (expects leaves kinds.Identifier s) (λ name.
       then name.1 (expect leaves kinds.ColonEquals name.1) _ (keeps name.1 _ (expects leaves kinds.ColonEquals name.1)) (λ operator.
       then operator.1 (expression leaves operator.1) _ (keeps operator.1 _ (expression_goes leaves operator.1)) (λ e.
-      then e.1 (check_allowed leaves kept item_kinds.Assignment ws name.0 e.1) _ (allowed_keeps item_kinds.Assignment ws name.0 e.1) (λ checked.
+      then e.1 (check_allowed leaves kept item_kinds.Assignment ws name.0 e.1) _ (obeying_keeps _ e.1) (λ checked.
       then checked.1 (next_binding_number leaves n checked.1) _ (binding_keeps leaves n checked.1) (λ number. there number.1)))))
 
   pub recipe_goes : (quiet : Bool) (ws : List W) (n : Counters) (s : State R T B) → Goes s (recipe leaves kept quiet ws n s)
@@ -287,7 +273,7 @@ module _ {R T A B S D W : Type 0} (leaves : Leaves R T A B S) (kept : AttributeL
       let rules = argument_rules leaves kept s.run ws in
       first s (header leaves kept.view rules n s) _ (header_goes leaves kept.view rules n s) (λ h.
       then h.1 (optional_body leaves h.1) _ (optional_body_keeps leaves h.1) (λ b.
-      then b.1 (check_exclusions leaves kept ws h.0.0.name b.1) _ (no_exclusion_keeps ws h.0.0.name b.1) (λ checked.
+      then b.1 (check_exclusions leaves kept ws h.0.0.name b.1) _ (obeying_keeps _ b.1) (λ checked.
       then checked.1 (next_recipe_number leaves h.0.1 checked.1) _ (recipe_number_keeps leaves h.0.1 checked.1) (λ number. there number.1))))
 
   pub any_recipe_goes : (ws : List W) (n : Counters) (s : State R T B) → Goes s (any_recipe leaves kept ws n s)
@@ -381,7 +367,7 @@ module _ {R T A B S D W : Type 0} (leaves : Leaves R T A B S) (kept : AttributeL
   pub items_is : (n : Counters) (s : State R T B) → items leaves kept n s ≡ items_rule leaves kept (items_from leaves kept) (n, s)
   unfolding items_from items_rule
   items_is n s =
-      recursive_step (λ x. length x.1.left) (no_items leaves kept) (items_rule leaves kept) (λ x f g same.
+      loop_is (λ x. x.1) (items_rule leaves kept) (λ x f g same.
       choose_alike (accept leaves kinds.Eof x.1) _ _ _ _
       (λ _. bind_alike (line leaves kept x.0 x.1) _ _ (λ l is. ap (after_numbered l.0.0) (same (l.0.1, l.1) (past x.1 _ l (line_goes x.0 x.1) is).0)))
       (λ _ _. refl)) (n, s)

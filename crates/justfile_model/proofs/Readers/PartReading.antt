@@ -1,5 +1,5 @@
 -- The parsers of the parts of items, one rule at a time: they leave fewer tokens, and the same fixed part and depth.
-use Rattle.std.proofs.Common.{◌≡◌, ℕ, Bool, true, false, cond, List, [], ◌∷◌, length, Option, Some, None, Ok, Err, codes, refl, sym, ap}
+use Rattle.std.proofs.Common.{◌≡◌, ℕ, Bool, true, false, cond, List, [], ◌∷◌, Option, Some, None, Ok, Err, codes, refl, sym, ap}
 use Rattle.justfile_vocabulary.specs.Keyword.{keyword_named}
 use Rattle.justfile_vocabulary.specs.declared.keyword.Keyword.{Keyword}
 use Rattle.justfile_vocabulary.specs.declared.token_kind.TokenKind.TheVariants as kinds
@@ -18,8 +18,7 @@ use Rattle.justfile_model.specs.Trees.Tree as tree
 use Rattle.justfile_model.specs.Trees.Tree.{Exprs, Quoted, SettingValue}
 use Rattle.justfile_model.proofs.Readers.ExpressionReading.{advances}
 use Rattle.justfile_model.proofs.Readers.HeaderReading.{binding_keeps, expression_goes, obeying_keeps}
-use Rattle.justfile_model.proofs.Readers.ReadingSteps.{Goes, Keeps, Past, Takes, accepts, accepts_word, after_test, bind_alike, choose_alike, cooks, either, either_goes, expects, first, keeps, past, past_then, then, then_goes, there, weaken}
-use Rattle.justfile_model.proofs.Lists.Turns.{recursive_keeps, recursive_step}
+use Rattle.justfile_model.proofs.Readers.ReadingSteps.{Goes, Keeps, Past, Takes, accepts, accepts_word, after_test, bind_alike, choose_alike, cooks, either, either_goes, expects, first, keeps, loop_goes, loop_is, past, past_then, then, then_goes, there, weaken}
 
 module _ {R T B X : Type 0} where
   pub numbered_keeps : (done : List X) (s : State R T B) (found : Read R T B (List X × Counters)) → Keeps s found → Keeps s (after_numbered done found)
@@ -70,37 +69,26 @@ module _ {R T A B S : Type 0} (leaves : Leaves R T A B S) where
   abbrev pub NamesPlace : Type 0
   NamesPlace = Counters × State R T B
 
-  abbrev ReadNames : Type 0
-  ReadNames = Read R T B (List A × Counters)
-
   pub numbered_name_goes : (n : Counters) (s : State R T B) → Goes s (r.numbered_name leaves n s)
   unfolding r.numbered_name
   numbered_name_goes n s =
       first s (expect leaves kinds.Identifier s) _ (expects leaves kinds.Identifier s) (λ name.
       then name.1 (next_binding_number leaves n name.1) _ (binding_keeps leaves n name.1) (λ number. there number.1))
 
-  names_end_goes : (n : Counters) (s : State R T B) → Goes s (r.names_end leaves n s)
-  unfolding r.names_end
-  names_end_goes n s = first s (expect leaves kinds.ParenR s) _ (expects leaves kinds.ParenR s) (λ closer. there closer.1)
-
-  names_rule_goes : (f : NamesPlace → ReadNames) → ((x : NamesPlace) → Goes x.1 (f x)) → (x : NamesPlace) → Goes x.1 (r.names_rule leaves f x)
-  unfolding r.names_rule
-  names_rule_goes f h x =
+  pub names_go : (x : NamesPlace) → Goes x.1 (r.names leaves x)
+  unfolding r.names r.names_rule r.names_end
+  names_go =
+      loop_goes (λ x. x.1) (r.names_rule leaves) (λ f h x.
       either_goes x.1 (accept leaves kinds.ParenR x.1) _ _ (accepts leaves kinds.ParenR x.1)
       (first x.1 (r.numbered_name leaves x.0 x.1) _ (numbered_name_goes x.0 x.1) (λ name.
       numbered_keeps (name.0.0 ∷ []) name.1 _ (either name.1 (accept leaves kinds.Comma name.1) _ _ (accepts leaves kinds.Comma name.1)
-      (keeps name.1 _ (names_end_goes name.0.1 name.1)) (λ comma. keeps comma.1 _ (h (name.0.1, comma.1))))))
-      (λ closer. there closer.1)
-
-  pub names_go : (x : NamesPlace) → Goes x.1 (r.names leaves x)
-  unfolding r.names
-  names_go =
-      recursive_keeps (λ (x : NamesPlace). length x.1.left) (r.no_names leaves) (r.names_rule leaves) (λ x found. Goes x.1 found) (λ x. tt) names_rule_goes
+      (then name.1 (expect leaves kinds.ParenR name.1) _ (keeps name.1 _ (expects leaves kinds.ParenR name.1)) (λ closer. there closer.1)) (λ comma. keeps comma.1 _ (h (name.0.1, comma.1))))))
+      (λ closer. there closer.1))
 
   pub names_is : (x : NamesPlace) → r.names leaves x ≡ r.names_rule leaves (r.names leaves) x
   unfolding r.names r.names_rule
   names_is x =
-      recursive_step (λ (x : NamesPlace). length x.1.left) (r.no_names leaves) (r.names_rule leaves) (λ x f g same.
+      loop_is (λ x. x.1) (r.names_rule leaves) (λ x f g same.
       choose_alike (accept leaves kinds.ParenR x.1) _ _ _ _
       (λ _. bind_alike (r.numbered_name leaves x.0 x.1) _ _ (λ name is. ap (after_numbered (name.0.0 ∷ []))
       (choose_alike (accept leaves kinds.Comma name.1) _ _ _ _ (λ _. refl)

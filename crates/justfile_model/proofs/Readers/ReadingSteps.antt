@@ -1,5 +1,5 @@
 -- The steps of the parser for arbitrary tokens: which steps are the same, and the state after a step.
-use Rattle.std.proofs.Common.{◌≡◌, ℕ, ◌<◌, ◌≤◌, Bool, true, false, cond, List, [], ◌∷◌, length, Option, Some, None, Result, Ok, Err, IfOk, codes, refl, subst, ap, arith, ◌∙◌}
+use Rattle.std.proofs.Common.{◌≡◌, ℕ, zero, suc, ◌<◌, ◌≤◌, Bool, true, false, cond, List, [], ◌∷◌, length, Option, Some, None, Result, Ok, Err, IfOk, codes, refl, subst, ap, arith, ◌∙◌}
 use Rattle.justfile_vocabulary.specs.declared.token_kind.TokenKind.{TokenKind}
 use Rattle.justfile_vocabulary.specs.declared.token_kind.TokenKind.TheVariants as kinds
 use Rattle.justfile_model.specs.declared.level.Level.{Level}
@@ -10,7 +10,9 @@ use Rattle.justfile_model.specs.LiteralTexts.Literals.{Literal, LiteralFault, co
 use Rattle.justfile_model.specs.Trees.Operators.{is_at, operator_of}
 use Rattle.justfile_model.specs.Readers.ReaderState.{◌>>=◌, Leaves, Read, State, Taken, Unexpected, accept, accept_by, accept_marked, accept_keyword, at, choose, expect, is_word, marked_by, marks, refused, same_kind}
 use Rattle.justfile_model.specs.Lexing.SignificantTokens.{SignificantToken}
+use Rattle.justfile_model.specs.Lists.Recursive.{recursive}
 use Rattle.justfile_model.specs.Trees.Tree.{Expr}
+use Rattle.justfile_model.proofs.Lists.Turns.{recursive_keeps, recursive_step}
 
 pub bind_alike : {X Y E : Type 0} (r : Result X E) (f g : X → Result Y E) → ((x : X) → r ≡ Ok x → f x ≡ g x) → (r >>= f) ≡ (r >>= g)
 bind_alike (Ok x) f g h = h x refl
@@ -32,7 +34,24 @@ after_test false x y P then otherwise = otherwise refl
 pub known : {X E : Type 0} {found : Result X E} (x : X) (Q : X → Type 0) → found ≡ Ok x → IfOk found Q → Q x
 known {X} {E} x Q e h = let P : Result X E → Type 0 = λ o. IfOk o Q in subst P e h
 
+-- a recursion on a size: what holds wherever it holds of all that is smaller
+pub by_size : {X : Type 0} (size : X → ℕ) (P : X → Type 0) → ((x : X) → ((y : X) → size y < size x → P y) → P x) → (x : X) → P x
+by_size {X} size P step x = below (suc (size x)) x (omega arith)
+  where
+    below : (most : ℕ) (x : X) → size x < most → P x
+    below zero x less = absurd (omega (arith, less))
+    below (suc most) x less = step x (λ y smaller. below most y (omega (arith, less, smaller)))
+
 module _ {R T B : Type 0} where
+  -- what holds of a value holds of it after any step, and after any token
+  pub after_all : {X Y : Type 0} (found : Read R T B X) (f : X × State R T B → Read R T B Y) (Q : Y → Type 0) → ((x : X × State R T B) → found ≡ Ok x → IfOk (f x) (λ y. Q y.0)) → IfOk (found >>= f) (λ y. Q y.0)
+  after_all (Ok x) f Q h = h x refl
+  after_all (Err e) f Q h = tt
+
+  pub after_choice : {Y : Type 0} (o : Taken R T B) (x : Read R T B Y) (f : T × State R T B → Read R T B Y) (Q : Y → Type 0) → IfOk x (λ y. Q y.0) → ((p : T × State R T B) → IfOk (f p) (λ y. Q y.0)) → IfOk (choose o x f) (λ y. Q y.0)
+  after_choice None x f Q h g = h
+  after_choice (Some p) x f Q h g = g p
+
   pub choose_alike : {X : Type 0} (o : Taken R T B) (x y : X) (f g : T × State R T B → X) → (o ≡ None → x ≡ y) → ((p : T × State R T B) → o ≡ Some p → f p ≡ g p) → choose o x f ≡ choose o y g
   choose_alike None x y f g e h = e refl
   choose_alike (Some p) x y f g e h = h p refl
@@ -125,6 +144,25 @@ module _ {R T B : Type 0} where
       let same : ◌≡◌ {A = T × State R T B} (t, at s rest) p = cc in
       subst P same (h, refl, refl)
   by_test s t rest false h p e = cc
+
+-- ---- loops, whose turns a rule gives
+
+module _ {R T B X Y : Type 0} (at : X → State R T B) (rule : (X → Read R T B Y) → X → Read R T B Y) where
+  abbrev pub loop : X → Read R T B Y
+  loop = recursive (λ x. length (at x).left) (λ x. Err (Unexpected None)) rule
+
+  pub loop_has : (P : X → Read R T B Y → Type 0) → ((x : X) → P x (Err (Unexpected None))) → ((f : X → Read R T B Y) → ((x : X) → P x (f x)) → (x : X) → P x (rule f x)) → (x : X) → P x (loop x)
+  loop_has = recursive_keeps (λ x. length (at x).left) (λ x. Err (Unexpected None)) rule
+
+  pub loop_keeps : ((f : X → Read R T B Y) → ((x : X) → Keeps (at x) (f x)) → (x : X) → Keeps (at x) (rule f x)) → (x : X) → Keeps (at x) (loop x)
+  loop_keeps = loop_has (λ x found. Keeps (at x) found) (λ x. tt)
+
+  pub loop_goes : ((f : X → Read R T B Y) → ((x : X) → Goes (at x) (f x)) → (x : X) → Goes (at x) (rule f x)) → (x : X) → Goes (at x) (loop x)
+  loop_goes = loop_has (λ x found. Goes (at x) found) (λ x. tt)
+
+  -- a turn, if the rule goes on with fewer tokens
+  pub loop_is : ((x : X) (f g : X → Read R T B Y) → ((y : X) → length (at y).left < length (at x).left → f y ≡ g y) → rule f x ≡ rule g x) → (x : X) → loop x ≡ rule loop x
+  loop_is = recursive_step (λ x. length (at x).left) (λ x. Err (Unexpected None)) rule
 
 -- ---- tokens
 

@@ -8,12 +8,12 @@ use Rattle.justfile_model.specs.Meanings.ReadAttribute.{ReadAttribute}
 use Rattle.justfile_model.specs.Readers.Reader as reader
 use Rattle.justfile_model.specs.Readers.HeaderReader as r
 use Rattle.justfile_model.specs.Readers.HeaderReader.{next_binding_number, expression, header, obeying}
-use Rattle.justfile_model.specs.Readers.PartReader.{accept_keyword_before, after_numbered, file_path, peek_assignment, is_imported, is_module, is_set, setting_keyword, line_is, names, names_end, names_rule, no_names, numbered_name, optional_path, setting_value}
+use Rattle.justfile_model.specs.Readers.PartReader.{accept_keyword_before, after_numbered, file_path, peek_assignment, is_imported, is_module, is_set, setting_keyword, line_is, names, names_end, names_rule, numbered_name, optional_path, setting_value}
 use Rattle.justfile_model.specs.Grammars.Settings.{setting_form}
 use Rattle.justfile_model.specs.Readers.Reader.{Start, after_byte_order_mark, alias, check_allowed, any_module, any_recipe, argument_rules, assignment, at_end, attributes, construct, content, next_recipe_number, end_of_tokens, item_end, function, has_body, import, imported, items, items_from, items_rule, line, named_module, check_exclusions, no_items, any_item, optional_body, recipe, setting, unexport, without_keyword}
 use Rattle.justfile_model.specs.Grammars.Conditions.{Conditions}
 use Rattle.justfile_model.specs.Grammars.Features.{Noted}
-use Rattle.justfile_model.specs.Readers.ReaderState.{◌>>=◌, Counters, accept, accepted, choose, expect, next_are}
+use Rattle.justfile_model.specs.Readers.ReaderState.{◌>>=◌, Counters, Unexpected, accept, accepted, choose, expect, next_are}
 use Rattle.justfile_model.specs.Meanings.RecipeRules.{parameter_broken, undefined_broken}
 use Rattle.justfile_model.specs.Trees.LeafView.{LeafView}
 use Rattle.justfile_model.specs.Lexing.SignificantTokens.{SignificantToken}
@@ -21,6 +21,7 @@ use Rattle.justfile_model.specs.Lexing.Tok.{Tok}
 use Rattle.justfile_model.specs.Trees.Tree.{ArgumentRules, Expr, Parameter, WrittenTree}
 use Rattle.justfile_model.specs.Readers.TreeReader.{Read, ReadError, State, Taken, tree_of_tokens, start_state, token_attributes, token_leaves, unnumbered}
 use Rattle.justfile_model.proofs.Lists.Turns.{both_recur}
+use Rattle.justfile_model.proofs.Readers.ReadingSteps.{loop}
 
 -- two readings that find one thing, but for the counters
 data Alike {X : Type 0} : Read (X × Counters) → Read (X × Counters) → Type 0 where
@@ -43,6 +44,28 @@ by_test : {Y : Type 0} (b : Bool) (x y z w : Read (Y × Counters)) → Alike x y
 by_test true x y z w h k = h
 by_test false x y z w h k = k
 
+after : {X : Type 0} (done : List X) {found found' : Read (List X × Counters)} → Alike found found' → Alike (after_numbered done found) (after_numbered done found')
+unfolding after_numbered
+after done h = then _ _ h (λ x n m s. both)
+
+-- the same state, with any counters
+data Begins : Counters × State → Counters × State → Type 0 where
+  begins : (n m : Counters) (s : State) → Begins (n, s) (m, s)
+
+-- a loop from there
+from : {X : Type 0} (rule : (Counters × State → Read (X × Counters)) → Counters × State → Read (X × Counters))
+    → ((f g : Counters × State → Read (X × Counters)) → ((n m : Counters) (s : State) → Alike (f (n, s)) (g (m, s))) → (n m : Counters) (s : State) → Alike (rule f (n, s)) (rule g (m, s)))
+    → (n m : Counters) (s : State) → Alike (loop (λ x. x.1) rule (n, s)) (loop (λ x. x.1) rule (m, s))
+from {X} rule turn n m s =
+    both_recur (λ (x : Counters × State). length x.1.left) (λ x. Err (Unexpected None)) rule (λ (x : Counters × State). length x.1.left) (λ x. Err (Unexpected None)) rule
+    Begins same_size (λ x y found found'. Alike found found') (λ x y h. neither) turns (n, s) (m, s) (begins n m s)
+  where
+    same_size : (x y : Counters × State) → Begins x y → length x.1.left ≡ length y.1.left
+    same_size x y (begins n m s) = refl
+
+    turns : (f g : Counters × State → Read (X × Counters)) → ((x y : Counters × State) → Begins x y → Alike (f x) (g y)) → (x y : Counters × State) → Begins x y → Alike (rule f x) (rule g y)
+    turns f g alike x y (begins n m s) = turn f g (λ n m s. alike (n, s) (m, s) (begins n m s)) n m s
+
 assignments : (eager export : Bool) (ws : List ReadAttribute) (n m : Counters) (s : State)
     → Alike (assignment token_leaves token_attributes eager export ws n s) (assignment token_leaves token_attributes eager export ws m s)
 unfolding assignment next_binding_number
@@ -52,39 +75,18 @@ assignments eager export ws n m s =
 
 -- ---- the parameters of functions
 
-abbrev NamesPlace : Type 0
-NamesPlace = Counters × State
-
--- the start of a name, with any counters
-data BeginsName : NamesPlace → NamesPlace → Type 0 where
-  begins_name : (n m : Counters) (s : State) → BeginsName (n, s) (m, s)
-
-after_name : (done : List Tok) {found found' : Read (List Tok × Counters)} → Alike found found' → Alike (after_numbered done found) (after_numbered done found')
-unfolding after_numbered
-after_name done h = then _ _ h (λ x n m s. both)
-
 each_name : (n m : Counters) (s : State) → Alike (numbered_name token_leaves n s) (numbered_name token_leaves m s)
 unfolding numbered_name next_binding_number
 each_name n m s = bind (expect token_leaves kinds.Identifier s) _ _ (λ name. both)
 
-names_rules : (f g : NamesPlace → Read (List Tok × Counters)) → ((x y : NamesPlace) → BeginsName x y → Alike (f x) (g y)) → (x y : NamesPlace) → BeginsName x y
-    → Alike (names_rule token_leaves f x) (names_rule token_leaves g y)
-unfolding names_rule names_end
-names_rules f g alike x y (begins_name n m s) =
-    pick (accept token_leaves kinds.ParenR s) _ _ _ _
-    (then _ _ (each_name n m s) (λ name k j t. after_name (name ∷ []) (pick (accept token_leaves kinds.Comma t) _ _ _ _
-    (bind (expect token_leaves kinds.ParenR t) _ _ (λ closer. both)) (λ comma. alike (k, comma.1) (j, comma.1) (begins_name k j comma.1)))))
-    (λ closer. both)
-
 all_names : (n m : Counters) (s : State) → Alike (names token_leaves (n, s)) (names token_leaves (m, s))
-unfolding names
-all_names n m s =
-    both_recur (λ (x : NamesPlace). length x.1.left) (no_names token_leaves) (names_rule token_leaves)
-    (λ (x : NamesPlace). length x.1.left) (no_names token_leaves) (names_rule token_leaves)
-    BeginsName same_size (λ x y found found'. Alike found found') (λ x y h. neither) names_rules (n, s) (m, s) (begins_name n m s)
-  where
-    same_size : (x y : NamesPlace) → BeginsName x y → length x.1.left ≡ length y.1.left
-    same_size x y (begins_name n m s) = refl
+unfolding names names_rule names_end
+all_names =
+    from (names_rule token_leaves) (λ f g alike n m s.
+    pick (accept token_leaves kinds.ParenR s) _ _ _ _
+    (then _ _ (each_name n m s) (λ name k j t. after (name ∷ []) (pick (accept token_leaves kinds.Comma t) _ _ _ _
+    (bind (expect token_leaves kinds.ParenR t) _ _ (λ closer. both)) (λ comma. alike k j comma.1))))
+    (λ closer. both))
 
 -- ---- items without a number of their own
 
@@ -107,20 +109,12 @@ unfolding imported
 all_imported optional ws n m s =
     bind (file_path token_leaves s) _ _ (λ path. bind (check_allowed token_leaves token_attributes item_kinds.Import ws path.0.0 path.1) _ _ (λ checked. both))
 
-imports : (ws : List ReadAttribute) (n m : Counters) (s : State) → Alike (import token_leaves token_attributes ws n s) (import token_leaves token_attributes ws m s)
-unfolding import
-imports ws n m s = all_imported (accepted token_leaves kinds.QuestionMark s).0 ws n m (accepted token_leaves kinds.QuestionMark s).1
-
 named_modules : (optional : Bool) (ws : List ReadAttribute) (n m : Counters) (s : State)
     → Alike (named_module token_leaves token_attributes optional ws n s) (named_module token_leaves token_attributes optional ws m s)
 unfolding named_module
 named_modules optional ws n m s =
     bind (expect token_leaves kinds.Identifier s) _ _ (λ name. bind (optional_path token_leaves name.1) _ _ (λ path.
     bind (check_allowed token_leaves token_attributes item_kinds.Module ws name.0 path.1) _ _ (λ checked. both)))
-
-modules : (ws : List ReadAttribute) (n m : Counters) (s : State) → Alike (any_module token_leaves token_attributes ws n s) (any_module token_leaves token_attributes ws m s)
-unfolding any_module
-modules ws n m s = named_modules (accepted token_leaves kinds.QuestionMark s).0 ws n m (accepted token_leaves kinds.QuestionMark s).1
 
 settings : (ws : List ReadAttribute) (n m : Counters) (s : State) → Alike (setting token_leaves token_attributes ws n s) (setting token_leaves token_attributes ws m s)
 unfolding setting
@@ -231,7 +225,7 @@ without_word ws n m s =
     (by_test (peek_assignment token_leaves s) _ _ _ _ (assignments false false ws n m s) (any_recipes ws n m s))
 
 contents : (ws : List ReadAttribute) (n m : Counters) (s : State) → Alike (content token_leaves token_attributes ws n s) (content token_leaves token_attributes ws m s)
-unfolding content
+unfolding content import any_module
 contents ws n m s =
     pick (accept_keyword_before token_leaves (codes "alias") (peek_assignment token_leaves) s) _ _ _ _
     (pick (accept_keyword_before token_leaves (codes "eager") (peek_assignment token_leaves) s) _ _ _ _
@@ -242,8 +236,8 @@ contents ws n m s =
     (pick (accept_keyword_before token_leaves (codes "set") (is_set token_leaves) s) _ _ _ _
     (without_word ws n m s)
     (λ word. settings ws n m word.1))
-    (λ word. modules ws n m word.1))
-    (λ word. imports ws n m word.1))
+    (λ word. named_modules (accepted token_leaves kinds.QuestionMark word.1).0 ws n m (accepted token_leaves kinds.QuestionMark word.1).1))
+    (λ word. all_imported (accepted token_leaves kinds.QuestionMark word.1).0 ws n m (accepted token_leaves kinds.QuestionMark word.1).1))
     (λ word. unexports ws n m word.1))
     (λ word. assignments false true ws n m word.1))
     (λ word. assignments true false ws n m word.1))
@@ -264,33 +258,17 @@ lines n m s =
     (then _ _ (on_lines n m s) (λ i k l t. bind (item_end token_leaves token_attributes (has_body i) t) _ _ (λ b. both)))
     (λ newline. both)
 
--- the start of a line, with any counters
-data Begins : Start token_leaves token_attributes → Start token_leaves token_attributes → Type 0 where
-  begins : (n m : Counters) (s : State) → Begins (n, s) (m, s)
-
 ends : (n m : Counters) (s : State) (ts : List SignificantToken) → Alike (end_of_tokens token_leaves token_attributes n s ts) (end_of_tokens token_leaves token_attributes m s ts)
 ends n m s [] = both
 ends n m s (t ∷ ts) = neither
 
-others : (done : WrittenTree) {found found' : Read (WrittenTree × Counters)} → Alike found found' → Alike (after_numbered done found) (after_numbered done found')
-unfolding after_numbered
-others done h = then _ _ h (λ x n m s. both)
-
-rules : (f g : Start token_leaves token_attributes → Read (WrittenTree × Counters)) → ((x y : Start token_leaves token_attributes) → Begins x y → Alike (f x) (g y)) → (x y : Start token_leaves token_attributes) → Begins x y → Alike (items_rule token_leaves token_attributes f x) (items_rule token_leaves token_attributes g y)
-unfolding items_rule at_end
-rules f g alike x y (begins n m s) =
-    pick (accept token_leaves kinds.Eof s) _ _ _ _
-    (then _ _ (lines n m s) (λ l k j t. others l (alike (k, t) (j, t) (begins k j t))))
-    (λ end. ends n m end.1 end.1.left)
-
 all_items : (n m : Counters) (s : State) → Alike (items token_leaves token_attributes n s) (items token_leaves token_attributes m s)
-unfolding items_from
-all_items n m s =
-    both_recur (λ x. length x.1.left) (no_items token_leaves token_attributes) (items_rule token_leaves token_attributes) (λ x. length x.1.left) (no_items token_leaves token_attributes) (items_rule token_leaves token_attributes)
-    Begins same_size (λ x y found found'. Alike found found') (λ x y h. neither) rules (n, s) (m, s) (begins n m s)
-  where
-    same_size : (x y : Start token_leaves token_attributes) → Begins x y → length x.1.left ≡ length y.1.left
-    same_size x y (begins n m s) = refl
+unfolding items_from items_rule at_end
+all_items =
+    from (items_rule token_leaves token_attributes) (λ f g alike n m s.
+    pick (accept token_leaves kinds.Eof s) _ _ _ _
+    (then _ _ (lines n m s) (λ l k j t. after l (alike k j t)))
+    (λ end. ends n m end.1 end.1.left))
 
 -- the tree and its features, as a file is read
 abbrev pub whole : Read (WrittenTree × Counters) → Result (WrittenTree × List (Noted Tok)) ReadError

@@ -1,5 +1,5 @@
 -- The steps of the parser over significant tokens: which tokens are next.
-use Rattle.std.proofs.Common.{◌≡◌, ℕ, Bool, true, false, ◌&&◌, cond, List, [], ◌∷◌, Option, Some, None, Result, Ok, Err, IfOk, refl, sym, subst, ap, ◌∙◌}
+use Rattle.std.proofs.Common.{◌≡◌, ℕ, Bool, true, false, ◌&&◌, ◌||◌, cond, List, [], ◌∷◌, Option, Some, None, Result, Ok, Err, IfOk, refl, sym, subst, ap, ◌∙◌}
 use Rattle.std.specs.Str.{bytes_eq}
 use Rattle.std.proofs.lemmas.Bool.{and_parts}
 use Rattle.std.proofs.lemmas.Slice.Eq.{bytes_eq-Decides}
@@ -28,20 +28,16 @@ use Rattle.justfile_model.specs.Readers.TreeReader.{ReadError, State, Taken, tok
 abbrev pub input : Conditions → ℕ → Tokens → List (Noted Tok) → State
 input conditions depth tokens noted = record { run = conditions; depth = depth; left = tokens; noted = noted }
 
--- what holds of each outcome of a step holds of the whole
-pub after_bind : {A B : Type 0} (r : Result A ReadError) (f : A → Result B ReadError) (P : Result B ReadError → Type 0) → ((e : ReadError) → P (Err e)) → ((x : A) → r ≡ Ok x → P (f x)) → P (r >>= f)
-after_bind (Ok x) f P fails goes = goes x refl
-after_bind (Err e) f P fails goes = fails e
-
-pub weaken : {A : Type 0} (found : Result A ReadError) (Q R : A → Type 0) → ((x : A) → Q x → R x) → IfOk found Q → IfOk found R
-weaken (Ok x) Q R f h = f x h
-weaken (Err e) Q R f h = tt
-
 pub is_false : (b : Bool) → (b ≡ true → ⊥) → b ≡ false
 is_false true h = absurd (h refl)
 is_false false h = refl
 
-true_not_false : (b : Bool) → b ≡ true → b ≡ false → ⊥
+-- either test passes
+pub one_of : {X : Type 0} (a b : Bool) → (a || b) ≡ true → (a ≡ true → X) → (b ≡ true → X) → X
+one_of true b h x y = x refl
+one_of false b h x y = y h
+
+pub true_not_false : (b : Bool) → b ≡ true → b ≡ false → ⊥
 true_not_false b e f = cc
 
 both_true : (x y : Bool) → x ≡ true → y ≡ true → (x && y) ≡ true
@@ -199,6 +195,53 @@ pub after_expect : {B : Type 0} (kind : TokenKind) (s : State) (f : SignificantT
 unfolding expect
 after_expect kind s f P fails goes = after_accept kind s (λ o. P (choose o (Err (refused Unexpected s)) (λ x. Ok x) >>= f)) (λ not. fails _) goes
 
+-- ---- what holds of the result, if there is one
+
+pub data Holds {A : Type 0} (P : A → Type 0) : Result A ReadError → Type 0 where
+  holds : {x : A} → P x → Holds P (Ok x)
+  failed : {e : ReadError} → Holds P (Err e)
+
+pub if_ok : {A : Type 0} {P : A → Type 0} {found : Result A ReadError} → Holds P found → IfOk found P
+if_ok (holds h) = h
+if_ok failed = tt
+
+pub of_ok : {A : Type 0} {P : A → Type 0} (found : Result A ReadError) → IfOk found P → Holds P found
+of_ok (Ok x) h = holds h
+of_ok (Err e) h = failed
+
+-- of what was read
+pub held : {A : Type 0} {P : A → Type 0} {found : Result A ReadError} (x : A) → found ≡ Ok x → Holds P found → P x
+held {P = P} x is h = subst (λ o. IfOk o P) is (if_ok h)
+
+-- what follows from it
+pub weaken : {A : Type 0} {P Q : A → Type 0} {found : Result A ReadError} → Holds P found → ((x : A) → P x → Q x) → Holds Q found
+weaken (holds {x = x} h) f = holds (f x h)
+weaken failed f = failed
+
+-- what holds after one step and another
+pub read_then : {A B : Type 0} {P : A → Type 0} {Q : B → Type 0} {found : Result A ReadError} {f : A → Result B ReadError} → Holds P found → ((x : A) → P x → Holds Q (f x)) → Holds Q (found >>= f)
+read_then (holds {x = x} h) k = k x h
+read_then failed k = failed
+
+-- where a token comes next or not, and where one is expected
+module _ {A : Type 0} {P : A → Type 0} where
+  pub if_next : (kind : TokenKind) (s : State) {x : Result A ReadError} (f : SignificantToken × State → Result A ReadError) → (NotNext kind s.left → Holds P x)
+      → ((t : SignificantToken) (rest : Tokens) → s.left ≡ t ∷ rest → IsKind kind t → Holds P (f (t, at s rest))) → Holds P (choose (accept token_leaves kind s) x f)
+  if_next kind s {x} f = after_choose kind s x f (Holds P)
+
+  pub if_word : (word : List ℕ) (s : State) {x : Result A ReadError} (f : SignificantToken × State → Result A ReadError) → (NotWord word s.left → Holds P x)
+      → ((t : SignificantToken) (rest : Tokens) → s.left ≡ t ∷ rest → IsWord word t → Holds P (f (t, at s rest))) → Holds P (choose (accept_keyword token_leaves word s) x f)
+  if_word word s {x} f = after_choose_word word s x f (Holds P)
+
+  pub if_marked : (word : List ℕ) (kind : TokenKind) (s : State) {x : Result A ReadError} (f : SignificantToken × State → Result A ReadError) → (NoMark word kind s.left → Holds P x)
+      → ((m t : SignificantToken) (rest : Tokens) → s.left ≡ m ∷ t ∷ rest → IsMarked word kind m t → Holds P (f (t, at s rest)))
+      → Holds P (choose (accept_marked token_leaves word kind s) x f)
+  if_marked word kind s {x} f = after_choose_marked word kind s x f (Holds P)
+
+  pub if_expected : (kind : TokenKind) (s : State) (f : SignificantToken × State → Result A ReadError)
+      → ((t : SignificantToken) (rest : Tokens) → s.left ≡ t ∷ rest → IsKind kind t → Holds P (f (t, at s rest))) → Holds P (expect token_leaves kind s >>= f)
+  if_expected kind s f = after_expect kind s f (Holds P) (λ e. failed)
+
 -- ---- an operator
 
 -- the token that an operator is
@@ -211,15 +254,9 @@ operator_token operators.ListConcatenation = kinds.PlusPlus
 operator_token operators.Concatenation = kinds.Plus
 
 token_operator : (o : Operator) → operator_of (operator_token o) ≡ Some o
-token_operator operators.Or = refl
-token_operator operators.And = refl
 token_operator (operators.Compare Equality) = refl
-token_operator (operators.Compare Inequality) = refl
-token_operator (operators.Compare RegexMatch) = refl
-token_operator (operators.Compare RegexMismatch) = refl
-token_operator operators.Join = refl
-token_operator operators.ListConcatenation = refl
-token_operator operators.Concatenation = refl
+token_operator (operators.Compare _) = refl
+token_operator _ = refl
 
 same_token : (kind : TokenKind) (p o : Operator) → kind ≡ operator_token p → ◌≡◌ {A = Option Operator} (Some p) (Some o) → kind ≡ operator_token o
 same_token kind p o is e = let same : p ≡ o = cc in is ∙ ap operator_token same

@@ -26,9 +26,6 @@ ReadAttributes = Read (List ReadAttribute)
 
 -- ---- the rules
 
-abbrev pub expression : State → Read (Expr Tok Tok)
-expression = r.expression token_leaves token_view keep_both entry_read
-
 abbrev pub placed_at : Option SignificantToken → Expr Tok Tok × State → Read (Argument Tok Tok)
 placed_at = r.placed_at token_leaves token_view keep_both entry_read
 
@@ -65,9 +62,6 @@ begins_key = r.begins_key token_leaves token_view keep_both entry_read
 abbrev pub argument : (name : SignificantToken) (keys : Bool) → List (Argument Tok Tok) → State → Read (Argument Tok Tok)
 argument = r.argument token_leaves token_view keep_both entry_read
 
-abbrev pub no_arguments : ArgumentPlace → ReadArguments
-no_arguments = r.no_arguments token_leaves token_view keep_both entry_read
-
 abbrev pub arguments_end : List (Argument Tok Tok) → State → ReadArguments
 arguments_end = r.arguments_end token_leaves token_view keep_both entry_read
 
@@ -88,9 +82,6 @@ made = r.made token_leaves token_view keep_both entry_read
 
 abbrev pub attribute : List ReadAttribute → State → Read ReadAttribute
 attribute = r.attribute token_leaves token_view keep_both entry_read
-
-abbrev pub no_attributes : AttributePlace → ReadAttributes
-no_attributes = r.no_attributes token_leaves token_view keep_both entry_read
 
 abbrev pub bracket_end : List ReadAttribute → State → ReadAttributes
 bracket_end = r.bracket_end token_leaves token_view keep_both entry_read

@@ -21,10 +21,7 @@ use Rattle.justfile_model.specs.Lexing.Tok.{Tok}
 use Rattle.justfile_model.specs.Trees.Tree.{Item, Parameter, WrittenAttribute}
 use Rattle.justfile_model.specs.Readers.TreeReader.{Read, State, Taken, token_attributes, token_leaves}
 use Rattle.justfile_model.proofs.Lists.AllParts.{all_have, each_of}
-use Rattle.justfile_model.proofs.Readers.Steps.{AreNext, after_word, input, next_left, next_taken, word_left, word_taken}
-
-true_not_false : (b : Bool) → b ≡ true → b ≡ false → ⊥
-true_not_false b h k = cc
+use Rattle.justfile_model.proofs.Readers.Steps.{AreNext, after_word, input, next_left, next_taken, true_not_false, word_left, word_taken}
 
 -- ---- what a list of parameters begins with
 
@@ -84,12 +81,11 @@ pub record NoneFollows (ts : Tokens) : Type 0 where
   pub string : AreNext (kinds.StringToken ∷ []) ts → ⊥
   pub named : AreNext (kinds.Identifier ∷ kinds.StringToken ∷ []) ts → ⊥
   pub twice : AreNext (kinds.Identifier ∷ kinds.Identifier ∷ kinds.StringToken ∷ []) ts → ⊥
-  pub called : AreNext (kinds.ParenL ∷ []) ts → ⊥
 
 -- where the next token is neither a name nor a mark nor a string
 pub another_follows : (t : SignificantToken) (ts : Tokens) → (IsKind kinds.Identifier t → ⊥) → (IsKind kinds.QuestionMark t → ⊥) → (IsKind kinds.StringToken t → ⊥)
-    → (IsKind kinds.ParenL t → ⊥) → NoneFollows (t ∷ ts)
-another_follows t ts name mark string called = record {
+    → NoneFollows (t ∷ ts)
+another_follows t ts name mark string = record {
   assigned = λ h. name h.0;
   comment = λ h. name h.0;
   line_end = λ h. name h.0;
@@ -98,7 +94,6 @@ another_follows t ts name mark string called = record {
   string = λ h. string h.0;
   named = λ h. name h.0;
   twice = λ h. name h.0;
-  called = λ h. called h.0;
 }
 
 module _ {A B : Type 0} (leaf : Tok → A) (position : Tok → B) (MayEnter : ℕ → Option SignificantToken → Type 0) where
@@ -117,7 +112,6 @@ module _ {A B : Type 0} (leaf : Tok → A) (position : Tok → B) (MayEnter : �
     string = λ h. head_not kinds.StringToken (λ e. cc) (λ e. cc) (λ e. cc) (λ e. cc) (λ e. cc) (λ e. cc) (parameters_head leaf position MayEnter ps) h.0;
     named = second kinds.StringToken (λ e. cc) (λ e. cc) (λ e. cc) (λ e. cc) (λ e. cc) (λ e. cc);
     twice = third ts ps;
-    called = λ h. head_not kinds.ParenL (λ e. cc) (λ e. cc) (λ e. cc) (λ e. cc) (λ e. cc) (λ e. cc) (parameters_head leaf position MayEnter ps) h.0;
   }
     where
       second : (kind : TokenKind) → (kind ≡ kinds.Identifier → ⊥) → (kind ≡ kinds.Dollar → ⊥) → (kind ≡ kinds.Plus → ⊥) → (kind ≡ kinds.Asterisk → ⊥)
@@ -132,6 +126,11 @@ module _ {A B : Type 0} (leaf : Tok → A) (position : Tok → B) (MayEnter : �
       third [] p h = absurd h.1
       third (u ∷ []) p h = absurd h.1.1
       third (u ∷ v ∷ us) p h = head_not kinds.StringToken (λ e. cc) (λ e. cc) (λ e. cc) (λ e. cc) (λ e. cc) (λ e. cc) (third_head leaf position MayEnter p h.0 h.1.0) h.1.1.0
+
+  pub parameters_uncalled : {ps : List (Parameter A B)} {fs : List (Noted B)} (ts : Tokens) {rest : Tokens} → Parameters leaf position MayEnter ps fs ts rest
+      → AreNext (kinds.ParenL ∷ []) ts → ⊥
+  parameters_uncalled [] ps h = absurd h
+  parameters_uncalled (t ∷ ts) ps h = head_not kinds.ParenL (λ e. cc) (λ e. cc) (λ e. cc) (λ e. cc) (λ e. cc) (λ e. cc) (parameters_head leaf position MayEnter ps) h.0
 
 -- ---- the tests
 
@@ -293,20 +292,15 @@ module _ (conditions : Conditions) (ns : List (Noted Tok)) where
     no_word_read t ts not =
         none_chosen (wordless t ts) t ts rows (all_have (λ row. accepted (wordless t ts) t ts row ≡ None) (λ row. no_name row.word row.follows t ts not) rows)
 
-    pub wordless_read : (t : SignificantToken) (ts : Tokens) → r.peek_assignment token_leaves (here ts) ≡ false
-        → r.line_is token_leaves (kinds.Identifier ∷ []) (here ts) ≡ false → r.is_imported token_leaves (here ts) ≡ false
-        → r.is_module token_leaves (here ts) ≡ false → r.is_set token_leaves (here ts) ≡ false
-        → content token_leaves token_attributes xs n (here (t ∷ ts)) ≡ without_keyword token_leaves token_attributes xs n (here (t ∷ ts))
-    unfolding content
     -- in the order of `rows`
-    wordless_read t ts a l i m s =
-        none_chosen (wordless t ts) t ts rows
-        (each_of (λ row. row.follows (here ts) ≡ false) (λ row. accepted (wordless t ts) t ts row ≡ None) (λ row. unfollowed row.word row.follows t ts) rows
-        (a, (a, (a, (l, (i, (m, (s, tt))))))))
-
     pub none_read : (t : SignificantToken) (ts : Tokens) → NoneFollows ts
         → content token_leaves token_attributes xs n (here (t ∷ ts)) ≡ without_keyword token_leaves token_attributes xs n (here (t ∷ ts))
-    none_read t ts none = wordless_read t ts (assigned_left ts none) (line_left ts none) (imported_left ts none) (module_left ts none) (set_left ts none)
+    unfolding content
+    none_read t ts none =
+        let a = assigned_left ts none in
+        none_chosen (wordless t ts) t ts rows
+        (each_of (λ row. row.follows (here ts) ≡ false) (λ row. accepted (wordless t ts) t ts row ≡ None) (λ row. unfollowed row.word row.follows t ts) rows
+        (a, (a, (a, (line_left ts none, (imported_left ts none, (module_left ts none, (set_left ts none, tt))))))))
 
     -- a keyword before what has to follow it
     pub keyword_read : (word : List ℕ) (t : SignificantToken) (ts : Tokens) → IsWord word t → follows_word (wordless t ts) t ts word rows ≡ true

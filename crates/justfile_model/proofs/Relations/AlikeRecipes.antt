@@ -47,12 +47,11 @@ else_alike : {X Y : Type 0} {Rel : X → Y → Type 0} {o p : Option X} {o' p' :
 else_alike absent k = k
 else_alike (present h) k = present h
 
-unless_alike : {X Y : Type 0} {Rel : X → Y → Type 0} (b b' : Bool) {o : Option X} {o' : Option Y} → b ≡ b' → AlikeOption Rel o o'
+pub unless_alike : {X Y : Type 0} {Rel : X → Y → Type 0} (b b' : Bool) {o : Option X} {o' : Option Y} → b ≡ b' → AlikeOption Rel o o'
     → AlikeOption Rel (cond b None o) (cond b' None o')
 unless_alike true true e h = absent
 unless_alike false false e h = h
-unless_alike true false e h = cc
-unless_alike false true e h = cc
+unless_alike _ _ e h = cc
 
 -- ---- rules of places
 
@@ -61,8 +60,7 @@ module _ {B B' : Type 0} (Position : B → B' → Type 0) where
       → Each (AlikeBroken Position) (broken_if b r t) (broken_if b' r' t')
   broken_if_alike true true e h k = a.cons (record { rule = h; token = k }) a.nil
   broken_if_alike false false e h k = a.nil
-  broken_if_alike true false e h k = cc
-  broken_if_alike false true e h k = cc
+  broken_if_alike _ _ e h k = cc
 
   pub second_alike : {bs : List B} {bs' : List B'} → Each Position bs bs' → Each (AlikeBroken Position) (second_broken bs) (second_broken bs')
   second_alike a.nil = a.nil

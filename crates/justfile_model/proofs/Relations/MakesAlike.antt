@@ -31,15 +31,13 @@ module _ {B B' : Type 0} (Position : B → B' → Type 0) where
       → Makes Checks (check b r t) (check b' r' t')
   checked true true e h k = refused h k
   checked false false e h k = made tt
-  checked true false e h k = cc
-  checked false true e h k = cc
+  checked _ _ e h k = cc
 
   pub by_tests : {X X' : Type 0} {Q : X → X' → Type 0} (b b' : Bool) {m n : Made B X} {m' n' : Made B' X'} → b ≡ b' → Makes Q m m' → Makes Q n n'
       → Makes Q (cond b m n) (cond b' m' n')
   by_tests true true e h k = h
   by_tests false false e h k = k
-  by_tests true false e h k = cc
-  by_tests false true e h k = cc
+  by_tests _ _ e h k = cc
 
   pub given : {X X' Y Y' : Type 0} {Q : X → X' → Type 0} {P : Y → Y' → Type 0} {o : Option X} {o' : Option X'} (f : X → Made B Y) (f' : X' → Made B' Y')
       → AlikeOption Q o o' → ((x : X) (x' : X') → Q x x' → Makes P (f x) (f' x')) → Makes (AlikeOption P) (if_given f o) (if_given f' o')

@@ -1,6 +1,6 @@
 -- The parser of files is natural in its tokens and leaves: for related tokens it parses related items and takes the same numbers. If one
 -- parser has no number left, the other can continue; then the counter is exceeded in all that it parses.
-use Rattle.std.proofs.Common.{◌≡◌, ℕ, zero, suc, ◌+◌, ◌<◌, ◌≤◌, Bool, true, false, ◌||◌, codes, cond, List, [], ◌∷◌, ◌++◌, length, drop, Option, Some, Ok, Err, IfOk, refl, sym, subst, ap, ◌∙◌, arith, IsOk}
+use Rattle.std.proofs.Common.{◌≡◌, ℕ, zero, suc, ◌+◌, ◌<◌, ◌≤◌, Bool, true, false, ◌||◌, codes, List, [], ◌∷◌, ◌++◌, length, drop, Option, Some, Ok, Err, IfOk, refl, sym, subst, ap, ◌∙◌, arith, IsOk}
 use Rattle.std.specs.Str.{trim_end}
 use Rattle.justfile_vocabulary.specs.declared.item_kind.ItemKind.{ItemKind}
 use Rattle.justfile_vocabulary.specs.declared.keyword.Keyword.{Keyword}
@@ -8,7 +8,7 @@ use Rattle.justfile_vocabulary.specs.declared.item_kind.ItemKind.TheVariants as 
 use Rattle.justfile_vocabulary.specs.declared.token_kind.TokenKind.{TokenKind}
 use Rattle.justfile_vocabulary.specs.declared.token_kind.TokenKind.TheVariants as kinds
 use Rattle.justfile_model.specs.Readers.AttributeReader.{AttributeLeaves}
-use Rattle.justfile_model.specs.Readers.HeaderReader.{ReadHeader, next_binding_number, expression, header, with_bindings}
+use Rattle.justfile_model.specs.Readers.HeaderReader.{ReadHeader, next_binding_number, expression, header}
 use Rattle.justfile_model.specs.Readers.PartReader.{accept_keyword_before, after_numbered, peek_assignment, is_imported, is_module, is_set, line_is, names, setting_value}
 use Rattle.justfile_model.specs.Readers.Reader.{CommentedBody, Start, after_byte_order_mark, alias, any_module, any_recipe, argument_rules, assigned, assignment, at_end, attributes, body, body_after, body_line, construct, content, next_recipe_number, end_of_tokens, item_end, file, fragment, function, has_body, headed, import, imported, items, items_from, items_rule, line, line_at, line_end, line_rest, line_rest_rule, lines, lines_rule, named_module, check_exclusions, no_line_rest, no_lines, any_item, optional_body, recipe, setting, some_lines, unexport, with_recipes, without_keyword}
 use Rattle.justfile_model.specs.Grammars.Expressions.{front}
@@ -24,15 +24,14 @@ use Rattle.justfile_model.proofs.Relations.AlikeRecipes.{exclusions_alike}
 use Rattle.justfile_model.proofs.Lists.EachLaws.{AlikeOption, absent, each_mapped, present}
 use Rattle.justfile_model.proofs.Relations.NaturalAttributes.{Keeping, attribute_lines_natural}
 use Rattle.justfile_model.proofs.Relations.NewAttributesAlike.{allowed_alike, arg_rules_alike}
-use Rattle.justfile_model.proofs.Readers.Counters.{Counted, after_parameters, count, counted, counted_bindings, counted_both, counted_recipes, items_count}
-use Rattle.justfile_model.proofs.Relations.NaturalExpressions.{Reads}
-use Rattle.justfile_model.proofs.Relations.NaturalHeaders.{AlikeRead, LacksHeader, after_alike, header_natural, obeying_natural, path_natural, pick_known, value_alike}
+use Rattle.justfile_model.proofs.Readers.Counters.{count, counted, counted_bindings, counted_both, counted_recipes, items_count, parameters_recipes}
+use Rattle.justfile_model.proofs.Relations.NaturalExpressions.{Reads, loop_natural}
+use Rattle.justfile_model.proofs.Relations.NaturalHeaders.{AlikeRead, LacksHeader, after_alike, header_natural, mark_alike, obeying_natural, path_natural, pick_known, value_alike}
 use Rattle.justfile_model.proofs.Relations.NaturalParts.{Higher, LacksName, accepted_before, file_path_natural, keyword_natural, names_natural, optional_path_natural, same_assigned, same_imported, same_module, same_set, same_unexported, setting_value_natural}
-use Rattle.justfile_model.proofs.Readers.ReadingSteps.{past}
+use Rattle.justfile_model.proofs.Readers.ReadingSteps.{after_all, after_test, by_size, known, past}
 use Rattle.justfile_model.proofs.Readers.ItemReading.{items_is, line_goes}
 use Rattle.justfile_model.proofs.Relations.Related as a
-use Rattle.justfile_model.proofs.Relations.Related.{Alike, AlikeFragment, AlikeItem, AlikeItems, AlikeLine, Each, Never, Related, Relations, Respects, States, Takes, accepted, an_item, at_alike, bind, bind_short, both, by_tests, each_both, each_length, expected, neither, no_item, no_next, none_taken, pick, refused_alike, same_body, same_comment, same_next, short, taken, trimmed_alike, unexpected, weaken}
-use Rattle.justfile_model.proofs.Lists.Turns.{both_recur}
+use Rattle.justfile_model.proofs.Relations.Related.{Alike, AlikeFragment, AlikeItem, AlikeItems, AlikeLine, Each, Never, Related, Relations, Respects, States, Takes, accepted, an_item, at_alike, bind, bind_short, both, by_tests, draw, each_both, each_length, expected, neither, no_item, no_next, none_taken, pick, refused_alike, same_body, same_comment, same_next, short, taken, trimmed_alike, unexpected, weaken}
 
 dropped : {X Y : Type 0} {Rel : X → Y → Type 0} (n : ℕ) {xs : List X} {ys : List Y} → Each Rel xs ys → Each Rel (drop n xs) (drop n ys)
 dropped zero h = h
@@ -50,20 +49,14 @@ module _ {R T A B S D R' T' A' B' S' D' : Type 0} (rel : Relations R T A B S D R
       bind rel _ _ (expected rel one other agree kinds.InterpolationEnd j) (λ y y' t2 i. both (a.a_value v) i))))
       (λ x x' t k. both (a.a_text (agree.text x.0 x'.0 t)) k)
 
-  rest_agrees : (f : State R T B → Read R T B (List (Fragment A B))) (g : State R' T' B' → Read R' T' B' (List (Fragment A' B'))) → ((s : State R T B) (s' : State R' T' B') → States rel s s' → Reads rel (Each (AlikeFragment rel)) (f s) (g s'))
-      → (s : State R T B) (s' : State R' T' B') → States rel s s' → Reads rel (Each (AlikeFragment rel)) (line_rest_rule one f s) (line_rest_rule other g s')
-  unfolding line_rest_rule
-  rest_agrees f g alike s s' h =
+  pub line_rest_natural : (s : State R T B) (s' : State R' T' B') → States rel s s' → Reads rel (Each (AlikeFragment rel)) (line_rest one s) (line_rest other s')
+  unfolding line_rest line_rest_rule
+  line_rest_natural =
+      loop_natural rel (λ s. s) (λ s. s) (States rel) (λ s s' h. h) (Each (AlikeFragment rel)) (line_rest_rule one) (line_rest_rule other) (λ f g alike s s' h.
       pick rel _ _ (accepted rel one other agree kinds.Eol h)
       (by_tests rel (next_are one (kinds.Dedent ∷ []) s) (next_are other (kinds.Dedent ∷ []) s') (same_next rel one other agree (kinds.Dedent ∷ []) h) (both a.nil h)
       (bind rel _ _ (fragment_natural h) (λ x x' q k. after_alike rel (a.cons q a.nil) (alike x.1 x'.1 k))))
-      (λ x x' t k. both a.nil k)
-
-  pub line_rest_natural : (s : State R T B) (s' : State R' T' B') → States rel s s' → Reads rel (Each (AlikeFragment rel)) (line_rest one s) (line_rest other s')
-  unfolding line_rest
-  line_rest_natural =
-      both_recur (λ s. length s.left) (no_line_rest one) (line_rest_rule one) (λ s. length s.left) (no_line_rest other) (line_rest_rule other) (States rel) (λ s s' h. each_length h.left)
-      (λ s s' found found'. Reads rel (Each (AlikeFragment rel)) found found') (λ s s' h. neither (unexpected no_next)) rest_agrees
+      (λ x x' t k. both a.nil k))
 
   same_line : {ts : List T} {ts' : List T'} → Each rel.token ts ts' → line_at one ts ≡ line_at other ts'
   same_line a.nil = refl
@@ -74,19 +67,13 @@ module _ {R T A B S D R' T' A' B' S' D' : Type 0} (rel : Relations R T A B S D R
   body_line_natural {s} {s'} h =
       bind rel _ _ (line_rest_natural s s' h) (λ x x' q k. both (subst (λ n. AlikeLine rel (Line (line_at one s.left) x.0) (Line n x'.0)) (same_line h.left) (a.line q)) k)
 
-  lines_agree : (f : State R T B → Read R T B (List (BodyLine A B ℕ))) (g : State R' T' B' → Read R' T' B' (List (BodyLine A' B' ℕ))) → ((s : State R T B) (s' : State R' T' B') → States rel s s' → Reads rel (Each (AlikeLine rel)) (f s) (g s'))
-      → (s : State R T B) (s' : State R' T' B') → States rel s s' → Reads rel (Each (AlikeLine rel)) (lines_rule one f s) (lines_rule other g s')
-  unfolding lines_rule
-  lines_agree f g alike s s' h =
+  pub lines_natural : (s : State R T B) (s' : State R' T' B') → States rel s s' → Reads rel (Each (AlikeLine rel)) (lines one s) (lines other s')
+  unfolding lines lines_rule
+  lines_natural =
+      loop_natural rel (λ s. s) (λ s. s) (States rel) (λ s s' h. h) (Each (AlikeLine rel)) (lines_rule one) (lines_rule other) (λ f g alike s s' h.
       pick rel _ _ (accepted rel one other agree kinds.Dedent h)
       (bind rel _ _ (body_line_natural h) (λ x x' q k. after_alike rel (a.cons q a.nil) (alike x.1 x'.1 k)))
-      (λ x x' t k. both a.nil k)
-
-  pub lines_natural : (s : State R T B) (s' : State R' T' B') → States rel s s' → Reads rel (Each (AlikeLine rel)) (lines one s) (lines other s')
-  unfolding lines
-  lines_natural =
-      both_recur (λ s. length s.left) (no_lines one) (lines_rule one) (λ s. length s.left) (no_lines other) (lines_rule other) (States rel) (λ s s' h. each_length h.left)
-      (λ s s' found found'. Reads rel (Each (AlikeLine rel)) found found') (λ s s' h. neither (unexpected no_next)) lines_agree
+      (λ x x' t k. both a.nil k))
 
   some_alike : {ls : List (BodyLine A B ℕ)} {ls' : List (BodyLine A' B' ℕ)} {s : State R T B} {s' : State R' T' B'} → Each (AlikeLine rel) ls ls' → States rel s s' → Reads rel (Each (AlikeLine rel)) (some_lines one ls s) (some_lines other ls' s')
   some_alike a.nil h = refused_alike rel one other agree h
@@ -207,49 +194,32 @@ module _ {R T A B S D W R' T' A' B' S' D' W' : Type 0} (rel : Relations R T A B 
   binding_alike : (eager export : Bool) {ws : List W} {ws' : List W'} (n : Counters) (name : T) (name' : T') → Each Keeps ws ws' → {e : Expr A B} {e' : Expr A' B'} {s : State R T B} {s' : State R' T' B'} → rel.token name name' → Alike rel e e' → States rel s s'
       → Related rel (AlikeNumbered n) (NoBinding n) (next_binding_number one n s >>= assigned one kept eager export ws name e) (next_binding_number other n s' >>= assigned other kept' eager export ws' name' e')
   unfolding next_binding_number
-  binding_alike eager export {ws} {ws'} n name name' q {e} {e'} {s} {s'} t v h = go (one.has_number n.bindings) (other.has_number n.bindings) refl refl
-    where
-      go : (b b' : Bool) → one.has_number n.bindings ≡ b → other.has_number n.bindings ≡ b'
-          → Related rel (AlikeNumbered n) (NoBinding n) (cond b (Ok ((n.bindings, with_bindings (n.bindings + 1) n), s)) (Err (NoNumber n)) >>= assigned one kept eager export ws name e) (cond b' (Ok ((n.bindings, with_bindings (n.bindings + 1) n), s')) (Err (NoNumber n)) >>= assigned other kept' eager export ws' name' e')
-      go true true is is' = both (a.assignment (attributed.attributes s.run s'.run h.run q) (agree.assignment s.run s'.run name name' h.run t n.bindings) v, refl, refl) h
-      go true false is is' = let left = agree.has_number n.bindings is in cc
-      go false true is is' = short {found = Ok ((n.bindings, with_bindings (n.bindings + 1) n), s') >>= assigned other kept' eager export ws' name' e'} (refl, is, (λ _. refl), bindings_end is (omega arith))
-      go false false is is' = short {found = Err (NoNumber n)} (refl, is, (λ has. cc), tt)
-
-  recipes_stay : (n : Counters) (ps : List (Parameter A B)) → (after_parameters n ps).recipes ≡ n.recipes
-  recipes_stay n [] = refl
-  recipes_stay n (p ∷ ps) = recipes_stay (with_bindings (n.bindings + 1) n) ps
+  binding_alike eager export n name name' q {s = s} {s' = s'} t v h =
+      draw rel (one.has_number n.bindings) (other.has_number n.bindings) n _ _ _ _ (agree.has_number n.bindings)
+      (both (a.assignment (attributed.attributes s.run s'.run h.run q) (agree.assignment s.run s'.run name name' h.run t n.bindings) v, refl, refl) h)
+      (λ is _. (refl, is, (λ _. refl), bindings_end is (omega arith))) (λ is is'. (refl, is, (λ has. cc), tt))
 
   recipe_numbered : {Lacking : Counters → Type 0} {ws : List W} {ws' : List W'} (quiet : Bool) (n c : Counters) (x : ReadHeader T A B S) (x' : ReadHeader T' A' B' S') → Each Keeps ws ws'
       → AlikeRead rel n (x, c) (x', c) → {body : CommentedBody one} {body' : CommentedBody other}
       {s : State R T B} {s' : State R' T' B'} → AlikeBody rel one other agree body body' → States rel s s'
       → Related rel (AlikeNumbered n) (NoRecipe Lacking) (next_recipe_number one c s >>= headed one kept quiet ws x body) (next_recipe_number other c s' >>= headed other kept' quiet ws' x' body')
   unfolding next_recipe_number
-  recipe_numbered {Lacking} {ws} {ws'} quiet n c x x' q k {body} {body'} {s} {s'} ls h = go (one.has_number c.recipes) (other.has_number c.recipes) refl refl
-    where
-      unmoved : c.recipes ≡ n.recipes
-      unmoved = ap (λ (m : Counters). m.recipes) k.counts ∙ recipes_stay n x.parameters
-
-      go : (b b' : Bool) → one.has_number c.recipes ≡ b → other.has_number c.recipes ≡ b'
-          → Related rel (AlikeNumbered n) (NoRecipe Lacking) (cond b (Ok ((c.recipes, with_recipes (c.recipes + 1) c), s)) (Err (NoNumber c)) >>= headed one kept quiet ws x body)
-          (cond b' (Ok ((c.recipes, with_recipes (c.recipes + 1) c), s')) (Err (NoNumber c)) >>= headed other kept' quiet ws' x' body')
-      go true true is is' =
-          both (
-            a.recipe (attributed.attributes s.run s'.run h.run q) (record {
-              quiet = refl;
-              name = subst (λ (number : ℕ). rel.recipe number (one.recipe s.run x.name c.recipes body.1) body.1 (other.recipe s'.run x'.name c.recipes body'.1) body'.1) unmoved
-                  (agree.recipe s.run s'.run x.name x'.name h.run k.name c.recipes body.1 body'.1 ls.lines);
-              parameters = k.parameters;
-              priors = k.priors;
-              subsequents = k.subsequents;
-            }) (same_comment rel one other agree ls.comment) ls.lines,
-            refl,
-            λ i. with_recipes (unmoved i + 1) (k.counts i),
-          ) h
-      go true false is is' = let left = agree.has_number c.recipes is in cc
-      go false true is is' =
-          short {found = Ok ((c.recipes, with_recipes (c.recipes + 1) c), s') >>= headed other kept' quiet ws' x' body'} (no_number is (λ _. refl) refl)
-      go false false is is' = short {found = Err (NoNumber c)} (no_number is (λ has. cc) tt)
+  recipe_numbered quiet n c x x' q k {body} {body'} {s} {s'} ls h =
+      let unmoved : c.recipes ≡ n.recipes = ap (λ (m : Counters). m.recipes) k.counts ∙ parameters_recipes n x.parameters in
+      draw rel (one.has_number c.recipes) (other.has_number c.recipes) c _ _ _ _ (agree.has_number c.recipes)
+      (both (
+        a.recipe (attributed.attributes s.run s'.run h.run q) (record {
+          quiet = refl;
+          name = subst (λ (number : ℕ). rel.recipe number (one.recipe s.run x.name c.recipes body.1) body.1 (other.recipe s'.run x'.name c.recipes body'.1) body'.1) unmoved
+              (agree.recipe s.run s'.run x.name x'.name h.run k.name c.recipes body.1 body'.1 ls.lines);
+          parameters = k.parameters;
+          priors = k.priors;
+          subsequents = k.subsequents;
+        }) (same_comment rel one other agree ls.comment) ls.lines,
+        refl,
+        λ i. with_recipes (unmoved i + 1) (k.counts i),
+      ) h)
+      (λ is _. no_number is (λ _. refl) refl) (λ is is'. no_number is (λ has. cc) tt)
 
   recipe_alike : {Lacking : Counters → Type 0} {ws : List W} {ws' : List W'} (quiet : Bool) (n : Counters) (x : ReadHeader T A B S × Counters) (x' : ReadHeader T' A' B' S' × Counters) → Each Keeps ws ws'
       → AlikeRead rel n x x' → {body : CommentedBody one} {body' : CommentedBody other}
@@ -294,20 +264,13 @@ module _ {R T A B S D W R' T' A' B' S' D' W' : Type 0} (rel : Relations R T A B 
       bind rel _ _ (value_alike rel one other agree j) (λ e e' v i. bind rel _ _ (allowed_natural item_kinds.Assignment name.0 name'.0 t q i) (λ u u' c l.
       binding_alike eager export n name.0 name'.0 q t v l))))
 
-  exceed_after : {X : Type 0} (m : Counters) (found : Read R' T' B' X) (f : X × State R' T' B' → Read R' T' B' (Item A' B' ℕ S' D' × Counters))
-      → ((x : X × State R' T' B') → AllExceed m (f x)) → AllExceed m (found >>= f)
-  exceed_after m (Ok x) f h = h x
-  exceed_after m (Err e) f h = tt
-
   -- a recipe whose header exceeds a counter does too
   drawn_exceeds : (m c : Counters) (quiet : Bool) (ws : List W') (x : ReadHeader T' A' B' S') (body : CommentedBody other) (s : State R' T' B')
       → one.has_number m.bindings ≡ false → m.bindings < c.bindings → AllExceed m (next_recipe_number other c s >>= headed other kept' quiet ws x body)
   unfolding next_recipe_number
-  drawn_exceeds m c quiet ws x body s ends less = go (other.has_number c.recipes)
-    where
-      go : (b : Bool) → AllExceed m (cond b (Ok ((c.recipes, with_recipes (c.recipes + 1) c), s)) (Err (NoNumber c)) >>= headed other kept' quiet ws x body)
-      go true = bindings_end ends less
-      go false = tt
+  drawn_exceeds m c quiet ws x body s ends less =
+      after_test (other.has_number c.recipes) _ _ (λ (o : Read R' T' B' (ℕ × Counters)). AllExceed m (o >>= headed other kept' quiet ws x body))
+      (λ _. bindings_end ends less) (λ _. tt)
 
   abbrev Rest : (quiet : Bool) → List W' → (ReadHeader T' A' B' S' × Counters) × State R' T' B' → Read R' T' B' (Item A' B' ℕ S' D' × Counters)
   Rest quiet ws h =
@@ -315,10 +278,10 @@ module _ {R T A B S D W R' T' A' B' S' D' W' : Type 0} (rel : Relations R T A B 
 
   header_carried : (m : Counters) (quiet : Bool) (ws : List W') (found : Read R' T' B' (ReadHeader T' A' B' S' × Counters)) → one.has_number m.bindings ≡ false
       → IfOk found (λ y. m.bindings < y.0.1.bindings) → AllExceed m (found >>= Rest quiet ws)
-  header_carried m quiet ws (Err e) ends less = tt
-  header_carried m quiet ws (Ok h) ends less =
-      exceed_after m (optional_body other h.1) _ (λ b. exceed_after m (check_exclusions other kept' ws h.0.0.name b.1) _ (λ checked.
-      drawn_exceeds m h.0.1 quiet ws h.0.0 b.0 checked.1 ends less))
+  header_carried m quiet ws found ends less =
+      let Q : Item A' B' ℕ S' D' × Counters → Type 0 = λ y. Exceeds m y.1 in
+      after_all found _ Q (λ h is. after_all (optional_body other h.1) _ Q (λ b _. after_all (check_exclusions other kept' ws h.0.0.name b.1) _ Q (λ checked _.
+      drawn_exceeds m h.0.1 quiet ws h.0.0 b.0 checked.1 ends (known h (λ y. m.bindings < y.0.1.bindings) is less))))
 
   pub recipe_natural : {ws : List W} {ws' : List W'} (quiet : Bool) (n : Counters) → Each Keeps ws ws' → {s : State R T B} {s' : State R' T' B'} → States rel s s'
       → Related rel (AlikeNumbered n) (NoRecipe (LacksIn ws' n s')) (recipe one kept quiet ws n s) (recipe other kept' quiet ws' n s')
@@ -387,11 +350,6 @@ module _ {R T A B S D W R' T' A' B' S' D' W' : Type 0} (rel : Relations R T A B 
 
   -- ---- items that draw no number of their own
 
-  mark_alike : {s : State R T B} {s' : State R' T' B'} {o : Taken R T B} {o' : Taken R' T' B'} → Takes rel o o' → States rel s s'
-      → ((taken_or s o).0 ≡ (taken_or s' o').0) × States rel (taken_or s o).1 (taken_or s' o').1
-  mark_alike a.none_taken h = (refl, h)
-  mark_alike (a.taken t k) h = (refl, k)
-
   alias_natural : {ws : List W} {ws' : List W'} (n : Counters) → Each Keeps ws ws' → {s : State R T B} {s' : State R' T' B'} → States rel s s'
       → Reads rel (AlikeNumbered n) (alias one kept ws n s) (alias other kept' ws' n s')
   unfolding alias
@@ -411,7 +369,7 @@ module _ {R T A B S D W R' T' A' B' S' D' W' : Type 0} (rel : Relations R T A B 
       → Reads rel (AlikeNumbered n) (import one kept ws n s) (import other kept' ws' n s')
   unfolding import taking.accepted
   import_natural {ws} {ws'} n q {s} {s'} h =
-      let mark = mark_alike (accepted rel one other agree kinds.QuestionMark h) h in
+      let mark = mark_alike rel (accepted rel one other agree kinds.QuestionMark h) h in
       let first = taken_or s (accept one kinds.QuestionMark s) in
       let second = taken_or s' (accept other kinds.QuestionMark s') in
       subst (λ (b : Bool). Reads rel (AlikeNumbered n) (imported one kept first.0 ws n first.1) (imported other kept' b ws' n second.1)) mark.0
@@ -429,7 +387,7 @@ module _ {R T A B S D W R' T' A' B' S' D' W' : Type 0} (rel : Relations R T A B 
       → Reads rel (AlikeNumbered n) (any_module one kept ws n s) (any_module other kept' ws' n s')
   unfolding any_module taking.accepted
   module_natural {ws} {ws'} n q {s} {s'} h =
-      let mark = mark_alike (accepted rel one other agree kinds.QuestionMark h) h in
+      let mark = mark_alike rel (accepted rel one other agree kinds.QuestionMark h) h in
       let first = taken_or s (accept one kinds.QuestionMark s) in
       let second = taken_or s' (accept other kinds.QuestionMark s') in
       subst (λ (b : Bool). Reads rel (AlikeNumbered n) (named_module one kept first.0 ws n first.1) (named_module other kept' b ws' n second.1)) mark.0
@@ -485,9 +443,10 @@ module _ {R T A B S D W R' T' A' B' S' D' W' : Type 0} (rel : Relations R T A B 
 
   function_carried : (m : Counters) (ws : List W') (name : T') (found : Read R' T' B' (List A' × Counters)) → one.has_number m.bindings ≡ false
       → Higher other m found → AllExceed m (found >>= FunctionRest ws name)
-  function_carried m ws name (Err e) ends less = tt
-  function_carried m ws name (Ok ps) ends less =
-      exceed_after m (expect other kinds.ColonEquals ps.1) _ (λ operator. exceed_after m (expression other operator.1) _ (λ body. bindings_end ends less))
+  function_carried m ws name found ends less =
+      let Q : Item A' B' ℕ S' D' × Counters → Type 0 = λ y. Exceeds m y.1 in
+      after_all found _ Q (λ ps is. after_all (expect other kinds.ColonEquals ps.1) _ Q (λ operator _. after_all (expression other operator.1) _ Q (λ body _.
+      bindings_end ends (known ps (λ y. m.bindings < y.0.1.bindings) is less))))
 
   function_natural : {ws : List W} {ws' : List W'} (n : Counters) → Each Keeps ws ws' → {s : State R T B} {s' : State R' T' B'} → States rel s s'
       → Related rel (AlikeNumbered n) (NoFunction ws' n s') (function one kept ws n s) (function other kept' ws' n s')
@@ -586,12 +545,9 @@ module _ {R T A B S D W R' T' A' B' S' D' W' : Type 0} (rel : Relations R T A B 
   ended_natural b b' same h = by_tests rel b b' same (both (λ n. (an_item a.newline no_item, refl)) h) (item_rest_natural h)
 
   carried : (n : Counters) (found : Read R' T' B' (Item A' B' ℕ S' D' × Counters)) (f : (Item A' B' ℕ S' D' × Counters) × State R' T' B' → Read R' T' B' (List (Item A' B' ℕ S' D'))) → AllExceed n found → AllExceed n (found >>= λ i. f i >>= λ b. Ok ((i.0.0 ∷ b.0, i.0.1), b.1))
-  carried n (Ok i) f h = go (f i)
-    where
-      go : (found : Read R' T' B' (List (Item A' B' ℕ S' D'))) → AllExceed n (found >>= λ b. Ok ((i.0.0 ∷ b.0, i.0.1), b.1))
-      go (Ok b) = h
-      go (Err e) = tt
-  carried n (Err e) f h = tt
+  carried n found f h =
+      let Q : List (Item A' B' ℕ S' D') × Counters → Type 0 = λ y. Exceeds n y.1 in
+      after_all found _ Q (λ i is. after_all (f i) _ Q (λ b _. known i (λ y. Exceeds n y.0.1) is h))
 
   pub line_natural : (n : Counters) {s : State R T B} {s' : State R' T' B'} → States rel s s' → Related rel (AllNumbered n) (NoLine n s') (line one kept n s) (line other kept' n s')
   unfolding line
@@ -611,54 +567,48 @@ module _ {R T A B S D W R' T' A' B' S' D' W' : Type 0} (rel : Relations R T A B 
   NoFile n s' m found = Wants n s' m × AllExceed m found
 
   -- counters grow along the items after a line
-  grown : (n : Counters) (done : List (Item A' B' ℕ S' D')) (m : Counters) (s' : State R' T' B') → Exceeds n m → AllExceed n (after_numbered done (items other kept' m s'))
-  unfolding after_numbered
-  grown n done m s' h = go (items other kept' m s') (items_count other kept' m s')
-    where
-      go : (found : Read R' T' B' (List (Item A' B' ℕ S' D') × Counters)) → Counted other kept' m found → AllExceed n (found >>= λ more. Ok ((done ++ more.0.0, more.0.1), more.1))
-      go (Ok x) is = exceeds_then h (omega (arith, ap (λ (c : Counters). c.bindings) is, counted_bindings m x.0.0)) (omega (arith, ap (λ (c : Counters). c.recipes) is, counted_recipes m x.0.0))
-      go (Err e) is = tt
-
   line_exceeds : (n : Counters) (found : Read R' T' B' (List (Item A' B' ℕ S' D') × Counters)) → AllExceed n found → AllExceed n (found >>= λ l. after_numbered l.0.0 (items_from other kept' (l.0.1, l.1)))
-  line_exceeds n (Ok l) h = grown n l.0.0 l.0.1 l.1 h
-  line_exceeds n (Err e) h = tt
+  unfolding after_numbered
+  line_exceeds n found h =
+      let Q : List (Item A' B' ℕ S' D') × Counters → Type 0 = λ y. Exceeds n y.1 in
+      after_all found _ Q (λ l is. after_all (items other kept' l.0.1 l.1) _ Q (λ more is2.
+      let grown = known more (λ x. x.0.1 ≡ counted l.0.1 x.0.0) is2 (items_count other kept' l.0.1 l.1) in
+      exceeds_then (known l (λ y. Exceeds n y.0.1) is h) (omega (arith, ap (λ (c : Counters). c.bindings) grown, counted_bindings l.0.1 more.0.0))
+      (omega (arith, ap (λ (c : Counters). c.recipes) grown, counted_recipes l.0.1 more.0.0))))
 
   end_alike : (n : Counters) (from : State R' T' B') {s : State R T B} {s' : State R' T' B'} {ts : List T} {ts' : List T'} → States rel s s' → Each rel.token ts ts'
       → Related rel (AllNumbered n) (NoFile n from) (end_of_tokens one kept n s ts) (end_of_tokens other kept' n s' ts')
   end_alike n from h a.nil = both (no_item, refl, refl) h
   end_alike n from h (a.cons t ts) = refused_alike rel one other agree h
 
-  module _ (most : ℕ) (all : (n : Counters) (s : State R T B) (s' : State R' T' B') → length s.left < most → States rel s s' → Related rel (AllNumbered n) (NoFile n s') (items one kept n s) (items other kept' n s')) where
-    -- after a line
-    others_alike : (n : Counters) (l : (List (Item A B ℕ S D) × Counters) × State R T B) (l' : (List (Item A' B' ℕ S' D') × Counters) × State R' T' B') (s' : State R' T' B') → length l.1.left < most → line other kept' n s' ≡ Ok l' → AllNumbered n l.0 l'.0 → States rel l.1 l'.1
-        → Related rel (AllNumbered n) (NoFile n s') (after_numbered l.0.0 (items one kept l.0.1 l.1)) (after_numbered l'.0.0 (items other kept' l'.0.1 l'.1))
-    unfolding after_numbered
-    others_alike n l l' s' less is' q k =
-        let inner : Related rel (AllNumbered l.0.1) (NoFile l.0.1 l'.1) (items one kept l.0.1 l.1) (items other kept' l.0.1 l'.1) = all l.0.1 l.1 l'.1 less k in
-        subst (λ (m : Counters). Related rel (AllNumbered n) (NoFile n s') (after_numbered l.0.0 (items one kept l.0.1 l.1)) (after_numbered l'.0.0 (items other kept' m l'.1))) q.1
-        (bind_short rel _ _ inner
-        (λ m w. (later (is' ∙ ap (λ (c : Counters). Ok ((l'.0.0, c), l'.1)) (sym q.1)) w.0, following m (items other kept' l.0.1 l'.1) w.1))
-        (λ x x' is is2 u j. both (items_both q.0 (subst (λ (c : Counters). AlikeItems rel c x.0.0 x'.0.0) q.2 u.0), u.1, u.2 ∙ ap (λ (c : Counters). counted c x.0.0) q.2 ∙ sym (counted_both n l.0.0 x.0.0)) j))
-      where
-        following : (m : Counters) (found : Read R' T' B' (List (Item A' B' ℕ S' D') × Counters)) → AllExceed m found → AllExceed m (found >>= λ more. Ok ((l'.0.0 ++ more.0.0, more.0.1), more.1))
-        following m (Ok x) h = h
-        following m (Err e) h = tt
+  abbrev AllAlike : Start one kept → Type 0
+  AllAlike x = (s' : State R' T' B') → States rel x.1 s' → Related rel (AllNumbered x.0) (NoFile x.0 s') (items_from one kept x) (items other kept' x.0 s')
 
-    step : (n : Counters) (s : State R T B) (s' : State R' T' B') → length s.left ≤ most → States rel s s' → Related rel (AllNumbered n) (NoFile n s') (items one kept n s) (items other kept' n s')
-    unfolding items_rule at_end
-    step n s s' few h =
-        rw (items_is one kept n s, items_is other kept' n s')
-        (pick rel _ _ (accepted rel one other agree kinds.Eof h)
-        (bind_short rel _ _ (line_natural n h) (λ m k. (here k.0, line_exceeds m (line other kept' n s') k.1))
-        (λ l l' is is' q k. others_alike n l l' s' (omega (arith, few, (past s _ l (line_goes one kept n s) is).0)) is' q k))
-        (λ x x' t k. end_alike n s' k k.left))
+  -- after a line
+  others_alike : (n : Counters) (l : (List (Item A B ℕ S D) × Counters) × State R T B) (l' : (List (Item A' B' ℕ S' D') × Counters) × State R' T' B') (s' : State R' T' B') → AllAlike (l.0.1, l.1) → line other kept' n s' ≡ Ok l' → AllNumbered n l.0 l'.0 → States rel l.1 l'.1
+      → Related rel (AllNumbered n) (NoFile n s') (after_numbered l.0.0 (items one kept l.0.1 l.1)) (after_numbered l'.0.0 (items other kept' l'.0.1 l'.1))
+  unfolding after_numbered
+  others_alike n l l' s' all is' q k =
+      subst (λ (m : Counters). Related rel (AllNumbered n) (NoFile n s') (after_numbered l.0.0 (items one kept l.0.1 l.1)) (after_numbered l'.0.0 (items other kept' m l'.1))) q.1
+      (bind_short rel _ _ (all l'.1 k)
+      (λ m w. (
+        later (is' ∙ ap (λ (c : Counters). Ok ((l'.0.0, c), l'.1)) (sym q.1)) w.0,
+        after_all (items other kept' l.0.1 l'.1) _ (λ y. Exceeds m y.1) (λ more is. known more (λ y. Exceeds m y.0.1) is w.1),
+      ))
+      (λ x x' is is2 u j. both (items_both q.0 (subst (λ (c : Counters). AlikeItems rel c x.0.0 x'.0.0) q.2 u.0), u.1, u.2 ∙ ap (λ (c : Counters). counted c x.0.0) q.2 ∙ sym (counted_both n l.0.0 x.0.0)) j))
 
-  all_natural : (most : ℕ) (n : Counters) (s : State R T B) (s' : State R' T' B') → length s.left < most → States rel s s' → Related rel (AllNumbered n) (NoFile n s') (items one kept n s) (items other kept' n s')
-  all_natural zero n s s' less h = absurd (omega (arith, less))
-  all_natural (suc most) n s s' less h = step most (all_natural most) n s s' (omega (arith, less)) h
+  all_natural : (x : Start one kept) → AllAlike x
+  unfolding items_rule at_end
+  all_natural =
+      by_size (λ (x : Start one kept). length x.1.left) AllAlike (λ x all s' h.
+      rw (items_is one kept x.0 x.1, items_is other kept' x.0 s')
+      (pick rel _ _ (accepted rel one other agree kinds.Eof h)
+      (bind_short rel _ _ (line_natural x.0 h) (λ m k. (here k.0, line_exceeds m (line other kept' x.0 s') k.1))
+      (λ l l' is is' q k. others_alike x.0 l l' s' (all (l.0.1, l.1) (past x.1 _ l (line_goes one kept x.0 x.1) is).0) is' q k))
+      (λ y y' t k. end_alike x.0 s' k k.left)))
 
   pub items_natural : (n : Counters) (s : State R T B) (s' : State R' T' B') → States rel s s' → Related rel (AllNumbered n) (NoFile n s') (items one kept n s) (items other kept' n s')
-  items_natural n s s' h = all_natural (suc (length s.left)) n s s' (omega arith) h
+  items_natural n s = all_natural (n, s)
 
   mark_taken : {s : State R T B} {s' : State R' T' B'} {o : Taken R T B} {o' : Taken R' T' B'} → States rel s s' → Takes rel o o' → States rel (choose o s (λ mark. mark.1)) (choose o' s' (λ mark. mark.1))
   mark_taken h none_taken = h

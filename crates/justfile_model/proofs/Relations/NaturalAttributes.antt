@@ -1,6 +1,6 @@
 -- The parser of attribute lines is natural in its tokens, leaves and views: for related tokens with the same views it parses related
 -- attributes, or fails for the same reason.
-use Rattle.std.proofs.Common.{◌≡◌, ℕ, Bool, true, false, ◌&&◌, not, List, [], ◌∷◌, ◌++◌, codes, length, map, Option, Some, None, Ok, is_some, refl, sym, ap, subst, ◌∙◌}
+use Rattle.std.proofs.Common.{◌≡◌, ℕ, Bool, true, false, ◌&&◌, not, List, [], ◌∷◌, ◌++◌, codes, map, Option, Some, None, Ok, is_some, refl, sym, ap, subst, ◌∙◌}
 use Rattle.std.specs.Option.{option_map}
 use Rattle.justfile_vocabulary.specs.AttributeKind.{kind_named, takes_keys}
 use Rattle.justfile_vocabulary.specs.declared.attribute_kind.AttributeKind.{AttributeKind}
@@ -9,7 +9,7 @@ use Rattle.justfile_model.specs.Readers.AttributeReader as r
 use Rattle.justfile_model.specs.Readers.AttributeReader.{read_made}
 use Rattle.justfile_model.specs.Meanings.Meaning.{at_key, by_key, by_position}
 use Rattle.justfile_model.specs.Readers.NewAttribute.{Made, new_entry}
-use Rattle.justfile_model.specs.Readers.ReaderState.{◌>>=◌, Leaves, Read, State, Taken, comment_in}
+use Rattle.justfile_model.specs.Readers.ReaderState.{◌>>=◌, Leaves, State, Taken, comment_in}
 use Rattle.justfile_model.specs.Trees.LeafView.{LeafView}
 use Rattle.justfile_model.specs.Lexing.SignificantTokens.{SignificantToken}
 use Rattle.justfile_model.specs.Trees.Tree.{Argument, Entry, Expr, WrittenAttribute, at_last, bare_attribute, commented}
@@ -18,11 +18,10 @@ use Rattle.justfile_model.proofs.Relations.AlikeAttributes.{AlikeArgument, Alike
 use Rattle.justfile_model.proofs.Relations.AlikeRules as rules
 use Rattle.justfile_model.proofs.Lists.EachLaws.{AlikeOption, absent, each_mapped, present, same_some}
 use Rattle.justfile_model.proofs.Relations.MakesAlike.{Makes, broken, made}
-use Rattle.justfile_model.proofs.Relations.NaturalExpressions.{Reads, expression_natural}
+use Rattle.justfile_model.proofs.Relations.NaturalExpressions.{Reads, expression_natural, loop_natural}
 use Rattle.justfile_model.proofs.Relations.NewAttributesAlike.{key_found, new_entry_alike}
 use Rattle.justfile_model.proofs.Relations.Related as a
 use Rattle.justfile_model.proofs.Relations.Related.{Alike, AlikeNext, Each, Relations, Respects, States, Takes, accepted, accepted_marked, bind, both, breaks, by_tests, each_both, each_length, expected, front_alike, neither, no_next, pick, same_comment, same_next, unexpected}
-use Rattle.justfile_model.proofs.Lists.Turns.{both_recur}
 
 -- An attribute without a comment is what is made of it as it is written, with the kind of its name, after others.
 pub record IsMade {R T A B S : Type 0} (leaves : Leaves R T A B S) (view : LeafView A B) (w : WrittenAttribute A B) (e : Entry A B) : Type 0 where
@@ -162,29 +161,17 @@ module _ {R T A B S D W R' T' A' B' S' D' W' : Type 0} (rel : Relations R T A B 
   unfolding r.arguments_end
   arguments_end_natural d h = bind rel _ _ (expected rel one other agree kinds.ParenR h) (λ c c' t k. both d k)
 
-  arguments_agree : (n : T) (n' : T') (keys : Bool) → rel.token n n'
-      → (f : List (Argument A B) × State R T B → Read R T B (List (Argument A B)))
-      (g : List (Argument A' B') × State R' T' B' → Read R' T' B' (List (Argument A' B')))
-      → ((x : List (Argument A B) × State R T B) (x' : List (Argument A' B') × State R' T' B') → Stand (AlikeArgument rel) x x' → Reads rel
-      (Each (AlikeArgument rel)) (f x) (g x'))
-      → (x : List (Argument A B) × State R T B) (x' : List (Argument A' B') × State R' T' B') → Stand (AlikeArgument rel) x x'
-      → Reads rel (Each (AlikeArgument rel)) (r.arguments_rule one view keep entry_in n keys f x) (r.arguments_rule other view' keep' entry_in' n' keys g x')
-  arguments_agree n n' keys t f g same x x' h =
-      pick rel _ _ (accepted rel one other agree kinds.ParenR h.state)
-      (bind rel _ _ (argument_natural n n' keys t h.read h.state) (λ y y' k j. pick rel _ _ (accepted rel one other agree kinds.Comma j)
-      (arguments_end_natural (one_more h.read k) j)
-      (λ c c' u i. same (x.0 ++ y.0 ∷ [], c.1) (x'.0 ++ y'.0 ∷ [], c'.1) (record { read = one_more h.read k; state = i }))))
-      (λ c c' u i. both h.read i)
-
   arguments_from_natural : (n : T) (n' : T') (keys : Bool) → rel.token n n'
       → (x : List (Argument A B) × State R T B) (x' : List (Argument A' B') × State R' T' B') → Stand (AlikeArgument rel) x x'
       → Reads rel (Each (AlikeArgument rel)) (r.arguments_from one view keep entry_in n keys x) (r.arguments_from other view' keep' entry_in' n' keys x')
   unfolding r.arguments_from
   arguments_from_natural n n' keys t =
-      both_recur (λ x. length x.1.left) (r.no_arguments one view keep entry_in) (r.arguments_rule one view keep entry_in n keys)
-      (λ x. length x.1.left) (r.no_arguments other view' keep' entry_in') (r.arguments_rule other view' keep' entry_in' n' keys) (Stand (AlikeArgument rel))
-      (λ x x' h. each_length h.state.left)
-      (λ x x' found found'. Reads rel (Each (AlikeArgument rel)) found found') (λ x x' h. neither (unexpected no_next)) (arguments_agree n n' keys t)
+      loop_natural rel (λ x. x.1) (λ x. x.1) (Stand (AlikeArgument rel)) (λ x x' h. h.state) (Each (AlikeArgument rel)) (r.arguments_rule one view keep entry_in n keys) (r.arguments_rule other view' keep' entry_in' n' keys) (λ f g same x x' h.
+      pick rel _ _ (accepted rel one other agree kinds.ParenR h.state)
+      (bind rel _ _ (argument_natural n n' keys t h.read h.state) (λ y y' k j. pick rel _ _ (accepted rel one other agree kinds.Comma j)
+      (arguments_end_natural (one_more h.read k) j)
+      (λ c c' u i. same (x.0 ++ y.0 ∷ [], c.1) (x'.0 ++ y'.0 ∷ [], c'.1) (record { read = one_more h.read k; state = i }))))
+      (λ c c' u i. both h.read i))
 
   arguments_natural : (n : T) (n' : T') (keys : Bool) {s : State R T B} {s' : State R' T' B'} → rel.token n n' → States rel s s'
       → Reads rel (Each (AlikeArgument rel)) (r.arguments one view keep entry_in n keys s) (r.arguments other view' keep' entry_in' n' keys s')
@@ -265,23 +252,14 @@ module _ {R T A B S D W R' T' A' B' S' D' W' : Type 0} (rel : Relations R T A B 
   unfolding r.bracket_end
   bracket_end_natural d h = bind rel _ _ (expected rel one other agree kinds.BracketR h) (λ c c' t k. both d k)
 
-  bracketed_agree : (f : List W × State R T B → Read R T B (List W)) (g : List W' × State R' T' B' → Read R' T' B' (List W'))
-      → ((x : List W × State R T B) (x' : List W' × State R' T' B') → Stand Keeps x x' → Reads rel (Each Keeps) (f x) (g x'))
-      → (x : List W × State R T B) (x' : List W' × State R' T' B') → Stand Keeps x x'
-      → Reads rel (Each Keeps) (r.bracketed_rule one view keep entry_in f x) (r.bracketed_rule other view' keep' entry_in' g x')
-  bracketed_agree f g same x x' h =
-      bind rel _ _ (attribute_natural h.read h.state) (λ w w' k j. pick rel _ _ (accepted rel one other agree kinds.Comma j)
-      (bracket_end_natural (one_more h.read k) j)
-      (λ c c' u i. same (x.0 ++ w.0 ∷ [], c.1) (x'.0 ++ w'.0 ∷ [], c'.1) (record { read = one_more h.read k; state = i })))
-
   bracketed_natural : (x : List W × State R T B) (x' : List W' × State R' T' B') → Stand Keeps x x'
       → Reads rel (Each Keeps) (r.bracketed one view keep entry_in x) (r.bracketed other view' keep' entry_in' x')
   unfolding r.bracketed
   bracketed_natural =
-      both_recur (λ x. length x.1.left) (r.no_attributes one view keep entry_in) (r.bracketed_rule one view keep entry_in)
-      (λ x. length x.1.left) (r.no_attributes other view' keep' entry_in') (r.bracketed_rule other view' keep' entry_in') (Stand Keeps)
-      (λ x x' h. each_length h.state.left)
-      (λ x x' found found'. Reads rel (Each Keeps) found found') (λ x x' h. neither (unexpected no_next)) bracketed_agree
+      loop_natural rel (λ x. x.1) (λ x. x.1) (Stand Keeps) (λ x x' h. h.state) (Each Keeps) (r.bracketed_rule one view keep entry_in) (r.bracketed_rule other view' keep' entry_in') (λ f g same x x' h.
+      bind rel _ _ (attribute_natural h.read h.state) (λ w w' k j. pick rel _ _ (accepted rel one other agree kinds.Comma j)
+      (bracket_end_natural (one_more h.read k) j)
+      (λ c c' u i. same (x.0 ++ w.0 ∷ [], c.1) (x'.0 ++ w'.0 ∷ [], c'.1) (record { read = one_more h.read k; state = i }))))
 
   -- ---- lines of attributes
 
@@ -314,25 +292,16 @@ module _ {R T A B S D W R' T' A' B' S' D' W' : Type 0} (rel : Relations R T A B 
         subst (λ text. Each Keeps (r.commented_by one view keep entry_in put o ws) (commented put' text ws')) (same_comment rel one other agree c)
         (same_alike (option_map (comment_in one) o) h)
 
-    lines_agree : (f : List W × State R T B → Read R T B (List W)) (g : List W' × State R' T' B' → Read R' T' B' (List W'))
-        → ((x : List W × State R T B) (x' : List W' × State R' T' B') → Stand Keeps x x' → Reads rel (Each Keeps) (f x) (g x'))
-        → (x : List W × State R T B) (x' : List W' × State R' T' B') → Stand Keeps x x'
-        → Reads rel (Each Keeps) (r.attribute_lines_rule one view keep entry_in put f x) (r.attribute_lines_rule other view' keep' entry_in' put' g x')
-    lines_agree f g same x x' h =
-        pick rel _ _ (accepted rel one other agree kinds.BracketL h.state) (both h.read h.state) (λ o o' t k.
-        bind rel _ _ (bracketed_natural (x.0, o.1) (x'.0, o'.1) (record { read = h.read; state = k })) (λ ws ws' d j.
-        bind rel _ _ (attributes_end_natural j) (λ e e' u i.
-        same (r.commented_by one view keep entry_in put e.0 ws.0, e.1) (r.commented_by other view' keep' entry_in' put' e'.0 ws'.0, e'.1)
-        (record { read = commented_alike u d; state = i }))))
-
     lines_from_natural : (x : List W × State R T B) (x' : List W' × State R' T' B') → Stand Keeps x x'
         → Reads rel (Each Keeps) (r.attribute_lines_from one view keep entry_in put x) (r.attribute_lines_from other view' keep' entry_in' put' x')
     unfolding r.attribute_lines_from
     lines_from_natural =
-        both_recur (λ x. length x.1.left) (r.no_attributes one view keep entry_in) (r.attribute_lines_rule one view keep entry_in put)
-        (λ x. length x.1.left) (r.no_attributes other view' keep' entry_in') (r.attribute_lines_rule other view' keep' entry_in' put') (Stand Keeps)
-        (λ x x' h. each_length h.state.left)
-        (λ x x' found found'. Reads rel (Each Keeps) found found') (λ x x' h. neither (unexpected no_next)) lines_agree
+        loop_natural rel (λ x. x.1) (λ x. x.1) (Stand Keeps) (λ x x' h. h.state) (Each Keeps) (r.attribute_lines_rule one view keep entry_in put) (r.attribute_lines_rule other view' keep' entry_in' put') (λ f g same x x' h.
+        pick rel _ _ (accepted rel one other agree kinds.BracketL h.state) (both h.read h.state) (λ o o' t k.
+        bind rel _ _ (bracketed_natural (x.0, o.1) (x'.0, o'.1) (record { read = h.read; state = k })) (λ ws ws' d j.
+        bind rel _ _ (attributes_end_natural j) (λ e e' u i.
+        same (r.commented_by one view keep entry_in put e.0 ws.0, e.1) (r.commented_by other view' keep' entry_in' put' e'.0 ws'.0, e'.1)
+        (record { read = commented_alike u d; state = i })))))
 
     -- the law
     pub attribute_lines_natural : {s : State R T B} {s' : State R' T' B'} → States rel s s'

@@ -1,5 +1,5 @@
 -- The parser of expressions is natural in its tokens and leaves: for related tokens it parses related trees.
-use Rattle.std.proofs.Common.{◌≡◌, ℕ, ◌+◌, ◌*◌, Bool, true, false, List, Option, Some, None, refl, subst, ap, codes}
+use Rattle.std.proofs.Common.{◌≡◌, ℕ, ◌+◌, ◌*◌, Bool, true, false, List, Option, Some, None, Err, length, refl, subst, ap, codes}
 use Rattle.justfile_vocabulary.specs.declared.token_kind.TokenKind.{TokenKind}
 use Rattle.justfile_vocabulary.specs.declared.token_kind.TokenKind.TheVariants as kinds
 use Rattle.justfile_model.specs.declared.level.Level.{Level}
@@ -12,10 +12,11 @@ use Rattle.justfile_model.specs.Grammars.Features.{function_feature, uncompared_
 use Rattle.justfile_model.specs.LiteralTexts.Literals as literals
 use Rattle.justfile_model.specs.LiteralTexts.Literals.{string_of, token_of}
 use Rattle.justfile_model.specs.Trees.Operators.{feature_of, operand, rank, right}
-use Rattle.justfile_model.specs.Readers.ReaderState.{◌>>=◌, Leaves, Read, State, refused}
+use Rattle.justfile_model.specs.Readers.ReaderState.{◌>>=◌, Leaves, Read, State, Unexpected, refused}
 use Rattle.justfile_model.specs.Trees.Tree.{Expr}
 use Rattle.justfile_model.proofs.Relations.Related as a
 use Rattle.justfile_model.proofs.Relations.Related.{Alike, AlikeAll, AlikeParts, Each, Meets, Never, Related, Relations, Respects, States, accepted, accepted_marked, accepted_operator, accepted_word, at_alike, bind, both, by_tests, closed_alike, cooked_alike, each_length, entered, expected, met, neither, no_next, none_met, noted_if_alike, one_noted, opened_alike, pick, refused_alike, same_ends, same_uncompared, unexpected, with_alike}
+use Rattle.justfile_model.proofs.Readers.ReadingSteps.{loop}
 use Rattle.justfile_model.proofs.Lists.Turns.{both_recur}
 
 pub string_asks : (expanded : Bool) (lexeme : List ℕ) → token_of (string_of expanded lexeme) ≡ lexeme
@@ -32,6 +33,16 @@ module _ {R T A B S D R' T' A' B' S' D' : Type 0} (rel : Relations R T A B S D R
 
   abbrev pub Reads : {X Y : Type 0} → (X → Y → Type 0) → Read R T B X → Read R' T' B' Y → Type 0
   Reads Q = Related rel Q (Never rel)
+
+  -- two loops from related places, if each turn keeps results related
+  pub loop_natural : {X Y X' Y' : Type 0} (at_one : X → State R T B) (at_other : X' → State R' T' B') (Like : X → X' → Type 0)
+      → ((x : X) (x' : X') → Like x x' → States rel (at_one x) (at_other x')) → (Q : Y → Y' → Type 0)
+      → (rule : (X → Read R T B Y) → X → Read R T B Y) (rule' : (X' → Read R' T' B' Y') → X' → Read R' T' B' Y')
+      → ((f : X → Read R T B Y) (g : X' → Read R' T' B' Y') → ((x : X) (x' : X') → Like x x' → Reads Q (f x) (g x')) → (x : X) (x' : X') → Like x x'
+      → Reads Q (rule f x) (rule' g x')) → (x : X) (x' : X') → Like x x' → Reads Q (loop at_one rule x) (loop at_other rule' x')
+  loop_natural at_one at_other Like state Q rule rule' =
+      both_recur (λ x. length (at_one x).left) (λ x. Err (Unexpected None)) rule (λ x'. length (at_other x').left) (λ x'. Err (Unexpected None)) rule' Like
+      (λ x x' h. each_length (state x x' h).left) (λ x x' found found'. Reads Q found found') (λ x x' h. neither (unexpected no_next))
 
   -- an expression or none
   pub data Finds : Option (Expr A B) → Option (Expr A' B') → Type 0 where
@@ -97,8 +108,7 @@ module _ {R T A B S D R' T' A' B' S' D' : Type 0} (rel : Relations R T A B S D R
     ended_alike : (b b' : Bool) {e : Expr A B} {e' : Expr A' B'} {s : State R T B} {s' : State R' T' B'} → b ≡ b' → Alike rel e e' → States rel s s' → Reads (Alike rel) (r.ended_by one b e s) (r.ended_by other b' e' s')
     ended_alike false false same e h = both e h
     ended_alike true true same e h = pick rel _ _ (accepted_word rel one other agree (codes "else") h) (both e h) (λ w w' t k. neither (unexpected (a.a_next t)))
-    ended_alike true false same e h = cc
-    ended_alike false true same e h = cc
+    ended_alike _ _ same e h = cc
 
     uncompared_alike : {e : Expr A B} {e' : Expr A' B'} {from : List T} {from' : List T'} {s : State R T B} {s' : State R' T' B'} → Alike rel e e' → Each rel.token from from' → States rel s s' → States rel (note_uncompared one e from s) (note_uncompared other e' from' s')
     uncompared_alike e a.nil h = h
@@ -175,8 +185,7 @@ module _ {R T A B S D R' T' A' B' S' D' : Type 0} (rel : Relations R T A B S D R
       elements_alike : (k : TokenKind) {e : Expr A B} {e' : Expr A' B'} (b b' : Bool) {s : State R T B} {s' : State R' T' B'} → b ≡ b' → Alike rel e e' → States rel s s' → Reads (AlikeAll rel) (r.elements one f k e b s) (r.elements other g k e' b' s')
       elements_alike k true true same e h = both (a.more e a.none) h
       elements_alike k false false same e h = bind rel _ _ (sequence_at k h) (λ es es' d j. both (a.more e d) j)
-      elements_alike k true false same e h = cc
-      elements_alike k false true same e h = cc
+      elements_alike k _ _ same e h = cc
 
       sequence_alike : (k : TokenKind) {s : State R T B} {s' : State R' T' B'} → States rel s s' → Reads (AlikeAll rel) (sequence_rule one f k s) (sequence_rule other g k s')
       unfolding sequence_rule
@@ -192,8 +201,7 @@ module _ {R T A B S D R' T' A' B' S' D' : Type 0} (rel : Relations R T A B S D R
               → Reads (AlikeParts rel start) (r.parts one f start x.0 b s) (r.parts other g start y.0 b' s')
           go true true same l k = both (a.last p.first.0 (l refl)) h
           go false false same l k = bind rel _ _ (level_alike levels.Expression false h) (λ v v' e j. bind rel _ _ (parts_at start j) (λ ps ps' d i. both (a.continue p.first.0 (k refl) e d) i))
-          go true false same l k = cc
-          go false true same l k = cc
+          go _ _ same l k = cc
 
       parts_alike : (start : List ℕ) {s : State R T B} {s' : State R' T' B'} → States rel s s' → Reads (AlikeParts rel start) (parts_rule one f start s) (parts_rule other g start s')
       unfolding parts_rule

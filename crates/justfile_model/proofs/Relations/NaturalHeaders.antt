@@ -1,6 +1,6 @@
 -- The parser of headers is natural in its tokens and leaves: for related tokens and related attributes it parses related headers and takes
 -- the same numbers. If one parser has no number left, the other can continue; then the counter is exceeded in what it parses.
-use Rattle.std.proofs.Common.{◌≡◌, ℕ, zero, suc, ◌+◌, ◌<◌, ◌≤◌, Bool, true, false, ◌||◌, cond, List, [], ◌∷◌, ◌++◌, length, map, Option, Some, None, Ok, Err, IfOk, IsOk, refl, sym, ap, subst, ◌∙◌, arith}
+use Rattle.std.proofs.Common.{◌≡◌, ℕ, ◌+◌, ◌<◌, Bool, true, false, ◌||◌, List, [], ◌∷◌, ◌++◌, length, map, Option, Some, Ok, Err, IfOk, IsOk, refl, sym, ap, subst, ◌∙◌, arith}
 use Rattle.justfile_vocabulary.specs.declared.token_kind.TokenKind.TheVariants as kinds
 use Rattle.justfile_model.specs.declared.parameter_kind.ParameterKind.{ParameterKind}
 use Rattle.justfile_model.specs.declared.parameter_kind.ParameterKind.TheVariants.{Plus, Singular, Star}
@@ -15,14 +15,13 @@ use Rattle.justfile_model.specs.Trees.Tree.{ArgumentRules, Dependency, Dependenc
 use Rattle.justfile_model.proofs.Relations.AlikeAttributes.{AlikeArgumentRules, SeesAlike}
 use Rattle.justfile_model.proofs.Relations.AlikeRecipes.{all_features_alike, misplaced_alike, option_mapped, options_alike, parameter_alike, rules_for_alike, same_names, second_alike, stars_alike, undefined_alike}
 use Rattle.justfile_model.proofs.Relations.AlikeRules.{AlikeBroken}
-use Rattle.justfile_model.proofs.Readers.Counters.{after_more, after_parameters}
+use Rattle.justfile_model.proofs.Readers.Counters.{Draws, after_more, after_parameters, draws_still, parameters_bindings, rest_draws, singulars_draw}
 use Rattle.justfile_model.proofs.Lists.EachLaws.{AlikeOption, absent, each_mapped, present, same_some}
-use Rattle.justfile_model.proofs.Relations.NaturalExpressions.{Reads, expression_natural, value_natural}
+use Rattle.justfile_model.proofs.Relations.NaturalExpressions.{Reads, expression_natural, loop_natural, value_natural}
 use Rattle.justfile_model.proofs.Readers.HeaderReading.{parameter_goes, singulars_is}
-use Rattle.justfile_model.proofs.Readers.ReadingSteps.{after_test, past}
+use Rattle.justfile_model.proofs.Readers.ReadingSteps.{after_all, by_size, known, past}
 use Rattle.justfile_model.proofs.Relations.Related as a
-use Rattle.justfile_model.proofs.Relations.Related.{Alike, AlikeDependency, AlikeDependencyArgument, AlikeParameter, AlikeParameters, Each, Related, Relations, Respects, States, Takes, accepted, bind, bind_short, both, by_tests, each_both, each_length, expected, neither, no_next, none_taken, pick, refused_alike, same_next, short, taken, unexpected, weaken, with_alike}
-use Rattle.justfile_model.proofs.Lists.Turns.{both_recur, recursive_keeps}
+use Rattle.justfile_model.proofs.Relations.Related.{Alike, AlikeDependency, AlikeDependencyArgument, AlikeParameter, AlikeParameters, Each, Related, Relations, Respects, States, Takes, accepted, bind, bind_short, both, by_tests, draw, each_both, each_length, expected, neither, no_next, none_taken, pick, refused_alike, same_next, short, taken, unexpected, weaken, with_alike}
 use Rattle.justfile_model.proofs.Lists.Unchanged.{expr_itself}
 
 module _ {R T A B S D R' T' A' B' S' D' : Type 0} (rel : Relations R T A B S D R' T' A' B' S' D') where
@@ -38,6 +37,12 @@ module _ {R T A B S D R' T' A' B' S' D' : Type 0} (rel : Relations R T A B S D R
   obeying_natural a.nil h = both tt h
   obeying_natural (a.cons b bs) h = neither (a.breaks b)
 
+  -- an optional token was taken in both, or in neither
+  pub mark_alike : {s : State R T B} {s' : State R' T' B'} {o : Taken R T B} {o' : Taken R' T' B'} → Takes rel o o' → States rel s s'
+      → ((taken_or s o).0 ≡ (taken_or s' o').0) × States rel (taken_or s o).1 (taken_or s' o').1
+  mark_alike a.none_taken h = (refl, h)
+  mark_alike (a.taken t k) h = (refl, k)
+
   -- a choice, where what was taken is known
   pub pick_known : {X Y : Type 0} {Q : X → Y → Type 0} {Wanting : Counters → Read R' T' B' Y → Type 0} {o : Taken R T B} {o' : Taken R' T' B'} {x : Read R T B X}
       {x' : Read R' T' B' Y} (f : T × State R T B → Read R T B X) (f' : T' × State R' T' B' → Read R' T' B' Y) → Takes rel o o' → Related rel Q Wanting x x'
@@ -52,21 +57,13 @@ module _ {R T A B S D R' T' A' B' S' D' : Type 0} (rel : Relations R T A B S D R
 
   -- ---- paths
 
-  path_rest_agrees : (f : State R T B → Read R T B (List A)) (g : State R' T' B' → Read R' T' B' (List A'))
-      → ((s : State R T B) (s' : State R' T' B') → States rel s s' → Reads rel (Each rel.name) (f s) (g s'))
-      → (s : State R T B) (s' : State R' T' B') → States rel s s' → Reads rel (Each rel.name) (r.path_rest_rule one f s) (r.path_rest_rule other g s')
-  unfolding r.path_rest_rule
-  path_rest_agrees f g alike s s' h =
+  path_rest_natural : (s : State R T B) (s' : State R' T' B') → States rel s s' → Reads rel (Each rel.name) (r.path_rest one s) (r.path_rest other s')
+  unfolding r.path_rest r.path_rest_rule
+  path_rest_natural =
+      loop_natural rel (λ s. s) (λ s. s) (States rel) (λ s s' h. h) (Each rel.name) (r.path_rest_rule one) (r.path_rest_rule other) (λ f g alike s s' h.
       pick rel _ _ (accepted rel one other agree kinds.ColonColon h) (both a.nil h)
       (λ c c' t k. bind rel _ _ (expected rel one other agree kinds.Identifier k) (λ n n' u j.
-      after_alike rel (a.cons (agree.name n.0 n'.0 u) a.nil) (alike n.1 n'.1 j)))
-
-  path_rest_natural : (s : State R T B) (s' : State R' T' B') → States rel s s' → Reads rel (Each rel.name) (r.path_rest one s) (r.path_rest other s')
-  unfolding r.path_rest
-  path_rest_natural =
-      both_recur (λ s. length s.left) (r.no_names one) (r.path_rest_rule one) (λ s. length s.left) (r.no_names other) (r.path_rest_rule other) (States rel)
-      (λ s s' h. each_length h.left)
-      (λ s s' found found'. Reads rel (Each rel.name) found found') (λ s s' h. neither (unexpected no_next)) path_rest_agrees
+      after_alike rel (a.cons (agree.name n.0 n'.0 u) a.nil) (alike n.1 n'.1 j))))
 
   pub path_natural : {s : State R T B} {s' : State R' T' B'} → States rel s s' → Reads rel (Each rel.name) (r.path one s) (r.path other s')
   unfolding r.path
@@ -107,25 +104,15 @@ module _ {R T A B S D R' T' A' B' S' D' : Type 0} (rel : Relations R T A B S D R
     pub read : Each Argued x.0 x'.0
     pub state : States rel x.1 x'.1
 
-  arguments_agree : (f : r.DependencyPlace one → Read R T B (List (DependencyArgument A B T)))
-      (g : r.DependencyPlace other → Read R' T' B' (List (DependencyArgument A' B' T')))
-      → ((x : r.DependencyPlace one) (x' : r.DependencyPlace other) → Stand x x' → Reads rel (Each Argued) (f x) (g x'))
-      → (x : r.DependencyPlace one) (x' : r.DependencyPlace other) → Stand x x'
-      → Reads rel (Each Argued) (r.dependency_arguments_rule one f x) (r.dependency_arguments_rule other g x')
-  unfolding r.dependency_arguments_rule
-  arguments_agree f g alike x x' h =
+  dependency_arguments_natural : (x : r.DependencyPlace one) (x' : r.DependencyPlace other) → Stand x x'
+      → Reads rel (Each Argued) (r.dependency_arguments one x) (r.dependency_arguments other x')
+  unfolding r.dependency_arguments r.dependency_arguments_rule
+  dependency_arguments_natural =
+      loop_natural rel (λ x. x.1) (λ x. x.1) Stand (λ x x' h. h.state) (Each Argued) (r.dependency_arguments_rule one) (r.dependency_arguments_rule other) (λ f g alike x x' h.
       pick rel _ _ (accepted rel one other agree kinds.ParenR h.state)
       (bind rel _ _ (dependency_argument_natural h.read h.state) (λ y y' q j.
       alike (x.0 ++ y.0 ∷ [], y.1) (x'.0 ++ y'.0 ∷ [], y'.1) (record { read = each_both h.read (a.cons q a.nil); state = j })))
-      (λ c c' t k. both h.read k)
-
-  dependency_arguments_natural : (x : r.DependencyPlace one) (x' : r.DependencyPlace other) → Stand x x'
-      → Reads rel (Each Argued) (r.dependency_arguments one x) (r.dependency_arguments other x')
-  unfolding r.dependency_arguments
-  dependency_arguments_natural =
-      both_recur (λ x. length x.1.left) (r.no_dependency_arguments one) (r.dependency_arguments_rule one) (λ x. length x.1.left)
-      (r.no_dependency_arguments other) (r.dependency_arguments_rule other) Stand (λ x x' h. each_length h.state.left)
-      (λ x x' found found'. Reads rel (Each Argued) found found') (λ x x' h. neither (unexpected no_next)) arguments_agree
+      (λ c c' t k. both h.read k))
 
   kept_argument : (d : DependencyArgument A B T) (d' : DependencyArgument A' B' T') → Argued d d'
       → AlikeDependencyArgument rel rel.star (over_dependency_argument (λ x. x) (λ x. x) one.star d) (over_dependency_argument (λ x. x) (λ x. x) other.star d')
@@ -167,23 +154,14 @@ module _ {R T A B S D R' T' A' B' S' D' : Type 0} (rel : Relations R T A B S D R
       λ i. same_next rel one other agree (kinds.Identifier ∷ []) h i || same_next rel one other agree (kinds.Asterisk ∷ []) h i
       || same_next rel one other agree (kinds.ParenL ∷ []) h i
 
-  dependencies_agree : (f : State R T B → Read R T B (List (Dependency A B S))) (g : State R' T' B' → Read R' T' B' (List (Dependency A' B' S')))
-      → ((s : State R T B) (s' : State R' T' B') → States rel s s' → Reads rel (Each (AlikeDependency rel)) (f s) (g s'))
-      → (s : State R T B) (s' : State R' T' B') → States rel s s'
-      → Reads rel (Each (AlikeDependency rel)) (r.dependencies_rule one f s) (r.dependencies_rule other g s')
-  unfolding r.dependencies_rule
-  dependencies_agree f g alike s s' h =
-      by_tests rel _ _ (same_begins_dependency h)
-      (bind rel _ _ (dependency_natural h) (λ d d' q k. after_alike rel (a.cons q a.nil) (alike d.1 d'.1 k)))
-      (both a.nil h)
-
   dependencies_natural : (s : State R T B) (s' : State R' T' B') → States rel s s'
       → Reads rel (Each (AlikeDependency rel)) (r.dependencies one s) (r.dependencies other s')
-  unfolding r.dependencies
+  unfolding r.dependencies r.dependencies_rule
   dependencies_natural =
-      both_recur (λ s. length s.left) (r.no_dependencies one) (r.dependencies_rule one) (λ s. length s.left) (r.no_dependencies other)
-      (r.dependencies_rule other) (States rel) (λ s s' h. each_length h.left)
-      (λ s s' found found'. Reads rel (Each (AlikeDependency rel)) found found') (λ s s' h. neither (unexpected no_next)) dependencies_agree
+      loop_natural rel (λ s. s) (λ s. s) (States rel) (λ s s' h. h) (Each (AlikeDependency rel)) (r.dependencies_rule one) (r.dependencies_rule other) (λ f g alike s s' h.
+      by_tests rel _ _ (same_begins_dependency h)
+      (bind rel _ _ (dependency_natural h) (λ d d' q k. after_alike rel (a.cons q a.nil) (alike d.1 d'.1 k)))
+      (both a.nil h))
 
   some_dependency_alike : {ds : List (Dependency A B S)} {ds' : List (Dependency A' B' S')} {s : State R T B} {s' : State R' T' B'}
       → Each (AlikeDependency rel) ds ds' → States rel s s'
@@ -218,87 +196,6 @@ module _ {R T A B S D R' T' A' B' S' D' : Type 0} (rel : Relations R T A B S D R
 
 -- ---- numbers of parameters
 
--- counters do not fall
-module _ {R T A B S : Type 0} (leaves : Leaves R T A B S) (view : R → LeafView A B) (rules : List (ArgumentRules A B)) where
-  abbrev Grows : Counters → Read R T B (r.Parameters leaves view rules) → Type 0
-  Grows c found = IfOk found (λ y. c.bindings ≤ y.0.1.bindings)
-
-  grows_after : {X : Type 0} (c : Counters) (found : Read R T B X) (f : X × State R T B → Read R T B (r.Parameters leaves view rules))
-      → ((x : X × State R T B) → Grows c (f x)) → Grows c (found >>= f)
-  grows_after c (Ok x) f h = h x
-  grows_after c (Err e) f h = tt
-
-  -- where they do not fall in a step, nor after it
-  grows_both : (c : Counters) (found : Read R T B (r.Parameters leaves view rules)) (f : r.ParameterPlace leaves view rules → Read R T B (r.Parameters leaves view rules))
-      → Grows c found → ((x : r.ParameterPlace leaves view rules) → Grows x.0.1 (f x)) → Grows c (found >>= f)
-  grows_both c (Err e) f h k = tt
-  grows_both c (Ok x) f h k = go (f x) (k x)
-    where
-      go : (found : Read R T B (r.Parameters leaves view rules)) → Grows x.0.1 found → Grows c found
-      go (Ok y) j = omega (arith, h, j)
-      go (Err e) j = tt
-
-  number_grows : (kind : ParameterKind) (export : Bool) (x : r.Parameters leaves view rules) (name : T) (default : Option (Expr A B)) (s : State R T B)
-      → Grows x.1 (next_binding_number leaves x.1 s >>= r.numbered leaves view rules kind export x.0 name default)
-  unfolding next_binding_number
-  number_grows kind export x name default s = go (leaves.has_number x.1.bindings)
-    where
-      go : (b : Bool)
-          → Grows x.1 (cond b (Ok ((x.1.bindings, with_bindings (x.1.bindings + 1) x.1), s)) (Err (NoNumber x.1)) >>= r.numbered leaves view rules kind export x.0 name default)
-      go true = omega arith
-      go false = tt
-
-  named_parameter_grows : (kind : ParameterKind) (export : Bool) (x : r.Parameters leaves view rules) (s : State R T B)
-      → Grows x.1 (r.named_parameter leaves view rules kind export x s)
-  unfolding r.named_parameter
-  named_parameter_grows kind export x s =
-      grows_after x.1 (expect leaves kinds.Identifier s) _ (λ name. grows_after x.1 (r.default_value leaves name.1) _ (λ default.
-      grows_after x.1 (obeying (parameter_broken (view default.1.run) rules x.0 (r.parameter_of leaves kind export (leaves.name name.0) default.0)) default.1) _
-      (λ checked. number_grows kind export x name.0 default.0 checked.1)))
-
-  parameter_grows : (kind : ParameterKind) (x : r.ParameterPlace leaves view rules) → Grows x.0.1 (r.parameter leaves view rules kind x)
-  unfolding r.parameter
-  parameter_grows kind x = named_parameter_grows kind (taking.accepted leaves kinds.Dollar x.1).0 x.0 (taking.accepted leaves kinds.Dollar x.1).1
-
-  singulars_rule_grow : (f : r.ParameterPlace leaves view rules → Read R T B (r.Parameters leaves view rules))
-      → ((x : r.ParameterPlace leaves view rules) → Grows x.0.1 (f x)) → (x : r.ParameterPlace leaves view rules)
-      → Grows x.0.1 (r.singulars_rule leaves view rules f x)
-  unfolding r.singulars_rule
-  singulars_rule_grow f h x =
-      after_test (r.begins_parameter leaves x.1) _ _ (Grows x.0.1)
-      (λ _. grows_both x.0.1 (r.parameter leaves view rules Singular x) f (parameter_grows Singular x) h) (λ _. omega arith)
-
-  singulars_grow : (x : r.ParameterPlace leaves view rules) → Grows x.0.1 (r.singulars leaves view rules x)
-  unfolding r.singulars
-  singulars_grow =
-      recursive_keeps (λ (x : r.ParameterPlace leaves view rules). length x.1.left) (r.no_parameters leaves view rules) (r.singulars_rule leaves view rules)
-      (λ x found. Grows x.0.1 found) (λ x. tt) singulars_rule_grow
-
-  -- what is read after parameters leaves their counter
-  kept_grow : {X : Type 0} (p : r.ParameterPlace leaves view rules) (found : Read R T B X) → Grows p.0.1 (found >>= λ end. Ok (p.0, end.1))
-  kept_grow p (Ok end) = omega arith
-  kept_grow p (Err e) = tt
-
-  variadic_grows : (kind : ParameterKind) (x : r.ParameterPlace leaves view rules) → Grows x.0.1 (r.variadic leaves view rules kind x)
-  unfolding r.variadic
-  variadic_grows kind x = grows_both x.0.1 (r.parameter leaves view rules kind x) _ (parameter_grows kind x) (λ p. kept_grow p (r.expect_no_name leaves p.1))
-
-  chosen_grow : (c : Counters) (o : Taken R T B) (x : Read R T B (r.Parameters leaves view rules)) (f : T × State R T B → Read R T B (r.Parameters leaves view rules))
-      → Grows c x → ((p : T × State R T B) → Grows c (f p)) → Grows c (choose o x f)
-  chosen_grow c None x f h k = h
-  chosen_grow c (Some p) x f h k = k p
-
-  last_parameter_grows : (x : r.ParameterPlace leaves view rules) → Grows x.0.1 (r.last_parameter leaves view rules x)
-  unfolding r.last_parameter
-  last_parameter_grows x =
-      chosen_grow x.0.1 (accept leaves kinds.Plus x.1) _ _
-      (chosen_grow x.0.1 (accept leaves kinds.Asterisk x.1) _ _ (omega arith) (λ prefix. variadic_grows Star (x.0, prefix.1)))
-      (λ prefix. variadic_grows Plus (x.0, prefix.1))
-
-  rest_grows : (p : r.ParameterPlace leaves view rules)
-      → Grows p.0.1 (r.last_parameter leaves view rules p >>= λ all. expect leaves kinds.Colon all.1 >>= λ colon. Ok (all.0, colon.1))
-  rest_grows p = grows_both p.0.1 (r.last_parameter leaves view rules p) _ (last_parameter_grows p) (λ all. kept_grow all (expect leaves kinds.Colon all.1))
-
 module _ {R T A B S D R' T' A' B' S' D' : Type 0} (rel : Relations R T A B S D R' T' A' B' S' D') where
   more_parameters : (n : Counters) {ps : List (Parameter A B)} {ps' : List (Parameter A' B')} {p : Parameter A B} {p' : Parameter A' B'}
       → AlikeParameters rel n.bindings ps ps' → AlikeParameter rel (after_parameters n ps).bindings p p'
@@ -320,6 +217,17 @@ module _ {R' T' A' B' S' : Type 0} (other : Leaves R' T' A' B' S') (view' : R' �
   -- what is read has a higher counter
   abbrev Exceeded : Counters → Read R' T' B' (r.Parameters other view' rules') → Type 0
   Exceeded m found = IfOk found (λ y. m.bindings < y.0.1.bindings)
+
+  -- also after others that draw their numbers
+  exceeds_after : (c : Counters) (found : Read R' T' B' (r.Parameters other view' rules'))
+      (f : r.ParameterPlace other view' rules' → Read R' T' B' (r.Parameters other view' rules')) → Exceeded c found
+      → ((y : r.ParameterPlace other view' rules') → Draws other view' rules' y.0 (f y)) → Exceeded c (found >>= f)
+  exceeds_after c (Err e) f h k = tt
+  exceeds_after c (Ok y) f h k = go (f y) (k y)
+    where
+      go : (found : Read R' T' B' (r.Parameters other view' rules')) → Draws other view' rules' y.0 found → Exceeded c found
+      go (Ok z) j = omega (arith, h, ap (λ (n : Counters). n.bindings) j.counts, parameters_bindings y.0.1 j.others)
+      go (Err e) j = tt
 
   -- what is read has a higher counter
   abbrev HeaderExceeds : Counters → Read R' T' B' (ReadHeader T' A' B' S' × Counters) → Type 0
@@ -414,7 +322,7 @@ module _ {R T A B S D R' T' A' B' S' D' : Type 0} (rel : Relations R T A B S D R
         parameters = more_parameters rel n q (subst (λ (m : Counters). AlikeParameter rel m.bindings (In kind export ps name e run c)
             (Other kind export ps' name' e' run' c)) counts (with_number kind export n c name name' run run' q t v h));
         same = refl;
-        counts = ap (λ (m : Counters). with_bindings (m.bindings + 1) m) counts ∙ sym (after_more n ps (In kind export ps name e run c));
+        counts = ap (λ (m : Counters). with_bindings (m.bindings + 1) m) counts ∙ sym (after_more n ps (In kind export ps name e run c ∷ []));
       }
 
   number_alike : (kind : ParameterKind) (export : Bool) (n c : Counters) {ps : List (Parameter A B)} {ps' : List (Parameter A' B')} (name : T) (name' : T')
@@ -423,18 +331,11 @@ module _ {R T A B S D R' T' A' B' S' D' : Type 0} (rel : Relations R T A B S D R
       → Related rel (Numbered n) (NoParameter c) (next_binding_number one c s >>= r.numbered one view rules kind export ps name e)
       (next_binding_number other c s' >>= r.numbered other view' rules' kind export ps' name' e')
   unfolding next_binding_number
-  number_alike kind export n c {ps} {ps'} name name' {e} {e'} {s} {s'} q counts t v h = go (one.has_number c.bindings) (other.has_number c.bindings) refl refl
-    where
-      go : (b b' : Bool) → one.has_number c.bindings ≡ b → other.has_number c.bindings ≡ b'
-          → Related rel (Numbered n) (NoParameter c)
-          (cond b (Ok ((c.bindings, with_bindings (c.bindings + 1) c), s)) (Err (NoNumber c)) >>= r.numbered one view rules kind export ps name e)
-          (cond b' (Ok ((c.bindings, with_bindings (c.bindings + 1) c), s')) (Err (NoNumber c)) >>= r.numbered other view' rules' kind export ps' name' e')
-      go true true is is' = both (one_more kind export n c name name' s.run s'.run q counts t v h.run) h
-      go true false is is' = let left = agree.has_number c.bindings is in cc
-      go false true is is' =
-          short {found = Ok ((c.bindings, with_bindings (c.bindings + 1) c), s') >>= r.numbered other view' rules' kind export ps' name' e'}
-          (record { same = refl; ends = is; reads = λ _. refl; exceeds = omega arith })
-      go false false is is' = short {found = Err (NoNumber c)} (record { same = refl; ends = is; reads = λ has. cc; exceeds = tt })
+  number_alike kind export n c name name' {s = s} {s' = s'} q counts t v h =
+      draw rel (one.has_number c.bindings) (other.has_number c.bindings) c _ _ _ _ (agree.has_number c.bindings)
+      (both (one_more kind export n c name name' s.run s'.run q counts t v h.run) h)
+      (λ is _. record { same = refl; ends = is; reads = λ _. refl; exceeds = omega arith })
+      (λ is is'. record { same = refl; ends = is; reads = λ has. cc; exceeds = tt })
 
   number_natural : (kind : ParameterKind) (export : Bool) (n : Counters) (x : r.Parameters one view rules) (x' : r.Parameters other view' rules') (name : T) (name' : T')
       {e : Option (Expr A B)} {e' : Option (Expr A' B')} {s : State R T B} {s' : State R' T' B'} → Numbered n x x'
@@ -472,64 +373,40 @@ module _ {R T A B S D R' T' A' B' S' D' : Type 0} (rel : Relations R T A B S D R
       bind rel _ _ (obeying_natural rel (obeyed kind export name.0 name'.0 e.1.run e'.1.run q.parameters t v j.run) j) (λ u u' c i.
       number_natural kind export n x x' name.0 name'.0 q t v i)))
 
-  dollar_alike : {s : State R T B} {s' : State R' T' B'} {o : Taken R T B} {o' : Taken R' T' B'} → Takes rel o o' → States rel s s'
-      → ((taken_or s o).0 ≡ (taken_or s' o').0) × States rel (taken_or s o).1 (taken_or s' o').1
-  dollar_alike a.none_taken h = (refl, h)
-  dollar_alike (a.taken t k) h = (refl, k)
-
   parameter_natural : (kind : ParameterKind) (n : Counters) (x : r.ParameterPlace one view rules) (x' : r.ParameterPlace other view' rules') → Places n x x'
       → Related rel (Numbered n) (NoParameter x'.0.1) (r.parameter one view rules kind x) (r.parameter other view' rules' kind x')
   unfolding r.parameter taking.accepted
   parameter_natural kind n x x' h =
-      let dollar = dollar_alike (accepted rel one other agree kinds.Dollar h.state) h.state in
+      let dollar = mark_alike rel (accepted rel one other agree kinds.Dollar h.state) h.state in
       let first = taken_or x.1 (accept one kinds.Dollar x.1) in
       let second = taken_or x'.1 (accept other kinds.Dollar x'.1) in
       subst (λ (b : Bool). Related rel (Numbered n) (NoParameter x'.0.1) (r.named_parameter one view rules kind first.0 x.0 first.1)
       (r.named_parameter other view' rules' kind b x'.0 second.1)) dollar.0 (named_parameter_natural kind first.0 n x.0 x'.0 h.numbered dollar.1)
 
-  exceeds_after : (c : Counters) (found : Read R' T' B' (r.Parameters other view' rules'))
-      (f : r.ParameterPlace other view' rules' → Read R' T' B' (r.Parameters other view' rules')) → Exceeded other view' rules' c found
-      → ((y : r.ParameterPlace other view' rules') → Grows other view' rules' y.0.1 (f y)) → Exceeded other view' rules' c (found >>= f)
-  exceeds_after c (Err e) f h k = tt
-  exceeds_after c (Ok y) f h k = go (f y) (k y)
-    where
-      go : (found : Read R' T' B' (r.Parameters other view' rules')) → Grows other view' rules' y.0.1 found → Exceeded other view' rules' c found
-      go (Ok z) j = omega (arith, h, j)
-      go (Err e) j = tt
-
   -- ---- parameters that take one argument
 
-  module _ (most : ℕ) (n : Counters) (all : (x : r.ParameterPlace one view rules) (x' : r.ParameterPlace other view' rules') → length x.1.left < most → Places n x x'
-      → Related rel (Numbered n) (Short (LacksSingular other view' rules' x')) (r.singulars one view rules x) (r.singulars other view' rules' x')) where
-    singular_short : (x' : r.ParameterPlace other view' rules') (m : Counters) → NoParameter x'.0.1 m (r.parameter other view' rules' Singular x')
-        → Short (LacksSingular other view' rules' x') m (r.parameter other view' rules' Singular x' >>= r.singulars other view' rules')
-    singular_short x' m w =
-        subst (λ (c : Counters). Short (LacksSingular other view' rules' x') c (r.parameter other view' rules' Singular x' >>= r.singulars other view' rules')) (sym w.same)
-        (record {
-          lacks = singular_lacks w.reads;
-          ends = w.ends;
-          exceeds = exceeds_after x'.0.1 (r.parameter other view' rules' Singular x') (r.singulars other view' rules') w.exceeds (singulars_grow other view' rules');
-        })
-
-    singulars_step : (x : r.ParameterPlace one view rules) (x' : r.ParameterPlace other view' rules') → length x.1.left ≤ most → Places n x x'
-        → Related rel (Numbered n) (Short (LacksSingular other view' rules' x')) (r.singulars one view rules x) (r.singulars other view' rules' x')
-    unfolding r.singulars_rule
-    singulars_step x x' few h =
-        rw (singulars_is one view rules x, singulars_is other view' rules' x')
-        (by_tests rel _ _ (same_begins_parameter rel one other agree h.state)
-        (bind_short rel _ _ (parameter_natural Singular n x x' h) (singular_short x') (λ p p' is is' q k.
-        weaken rel (λ y y' j. j) (λ m w. record { lacks = later_lacks is' w.lacks; ends = w.ends; exceeds = w.exceeds })
-        (all p p' (omega (arith, few, (past x.1 _ p (parameter_goes one view rules Singular x) is).0)) (record { numbered = q; state = k }))))
-        (both h.numbered h.state))
-
-  all_singulars : (most : ℕ) (n : Counters) (x : r.ParameterPlace one view rules) (x' : r.ParameterPlace other view' rules') → length x.1.left < most → Places n x x'
-      → Related rel (Numbered n) (Short (LacksSingular other view' rules' x')) (r.singulars one view rules x) (r.singulars other view' rules' x')
-  all_singulars zero n x x' less h = absurd (omega (arith, less))
-  all_singulars (suc most) n x x' less h = singulars_step most n (all_singulars most n) x x' (omega (arith, less)) h
+  singular_short : (x' : r.ParameterPlace other view' rules') (m : Counters) → NoParameter x'.0.1 m (r.parameter other view' rules' Singular x')
+      → Short (LacksSingular other view' rules' x') m (r.parameter other view' rules' Singular x' >>= r.singulars other view' rules')
+  singular_short x' m w =
+      subst (λ (c : Counters). Short (LacksSingular other view' rules' x') c (r.parameter other view' rules' Singular x' >>= r.singulars other view' rules')) (sym w.same)
+      (record {
+        lacks = singular_lacks w.reads;
+        ends = w.ends;
+        exceeds = exceeds_after other view' rules' x'.0.1 (r.parameter other view' rules' Singular x') (r.singulars other view' rules') w.exceeds (singulars_draw other view' rules');
+      })
 
   singulars_natural : (n : Counters) (x : r.ParameterPlace one view rules) (x' : r.ParameterPlace other view' rules') → Places n x x'
       → Related rel (Numbered n) (Short (LacksSingular other view' rules' x')) (r.singulars one view rules x) (r.singulars other view' rules' x')
-  singulars_natural n x x' h = all_singulars (suc (length x.1.left)) n x x' (omega arith) h
+  unfolding r.singulars_rule
+  singulars_natural n =
+      by_size (λ (x : r.ParameterPlace one view rules). length x.1.left) (λ x. (x' : r.ParameterPlace other view' rules') → Places n x x'
+      → Related rel (Numbered n) (Short (LacksSingular other view' rules' x')) (r.singulars one view rules x) (r.singulars other view' rules' x')) (λ x all x' h.
+      rw (singulars_is one view rules x, singulars_is other view' rules' x')
+      (by_tests rel _ _ (same_begins_parameter rel one other agree h.state)
+      (bind_short rel _ _ (parameter_natural Singular n x x' h) (singular_short x') (λ p p' is is' q k.
+      weaken rel (λ y y' j. j) (λ m w. record { lacks = later_lacks is' w.lacks; ends = w.ends; exceeds = w.exceeds })
+      (all p (past x.1 _ p (parameter_goes one view rules Singular x) is).0 p' (record { numbered = q; state = k }))))
+      (both h.numbered h.state)))
 
   -- ---- the last parameter
 
@@ -542,8 +419,8 @@ module _ {R T A B S D R' T' A' B' S' D' : Type 0} (rel : Relations R T A B S D R
       (λ m w. record {
         lacks = (w.same, w.reads);
         ends = subst (λ (c : Counters). one.has_number c.bindings ≡ false) (sym w.same) w.ends;
-        exceeds = exceeds_after m (r.parameter other view' rules' kind x') _ (subst (λ (c : Counters). Exceeded other view' rules' c (r.parameter other view' rules' kind x')) (sym w.same) w.exceeds)
-            (λ p. kept_grow other view' rules' p (r.expect_no_name other p.1));
+        exceeds = exceeds_after other view' rules' m (r.parameter other view' rules' kind x') _ (subst (λ (c : Counters). Exceeded other view' rules' c (r.parameter other view' rules' kind x')) (sym w.same) w.exceeds)
+            (λ p. draws_still other view' rules' p (r.expect_no_name other p.1));
       })
       (λ p p' is is' q k. bind rel _ _ (nothing_after_natural rel one other agree k) (λ u u' c j. both q j))
 
@@ -569,13 +446,13 @@ module _ {R T A B S D R' T' A' B' S' D' : Type 0} (rel : Relations R T A B S D R
       (λ m w. record {
         lacks = lacks_singular w.lacks;
         ends = w.ends;
-        exceeds = exceeds_after m (r.singulars other view' rules' (([], n), s')) _ w.exceeds (rest_grows other view' rules');
+        exceeds = exceeds_after other view' rules' m (r.singulars other view' rules' (([], n), s')) _ w.exceeds (rest_draws other view' rules');
       })
       (λ ps ps' is is' q k. bind_short rel _ _ (last_natural n ps ps' (record { numbered = q; state = k }))
       (λ m w. record {
         lacks = subst (λ (c : Counters). LacksParameter other view' rules' n s' c) (sym w.lacks.0) (lacks_last is' w.lacks.1);
         ends = w.ends;
-        exceeds = exceeds_after m (r.last_parameter other view' rules' ps') _ w.exceeds (λ all. kept_grow other view' rules' all (expect other kinds.Colon all.1));
+        exceeds = exceeds_after other view' rules' m (r.last_parameter other view' rules' ps') _ w.exceeds (λ all. draws_still other view' rules' all (expect other kinds.Colon all.1));
       })
       (λ all all' is2 is3 q2 j. bind rel _ _ (expected rel one other agree kinds.Colon j) (λ c c' t i. both q2 i)))
 
@@ -602,23 +479,11 @@ module _ {R T A B S D R' T' A' B' S' D' : Type 0} (rel : Relations R T A B S D R
   -- what follows the parameters draws no number
   rest_exceeds : (m : Counters) (name : T') (found : Read R' T' B' (r.Parameters other view' rules')) → Exceeded other view' rules' m found
       → HeaderExceeds other view' rules' m (found >>= Rest name)
-  rest_exceeds m name (Err e) h = tt
-  rest_exceeds m name (Ok ps) h = go (obeying (undefined_broken (view' ps.1.run) ps.0.0 rules') ps.1)
-    where
-      go3 : (ds : List (Dependency A' B' S')) (found : Read R' T' B' (List (Dependency A' B' S')))
-          → HeaderExceeds other view' rules' m (found >>= λ others. Ok ((r.header_of other view' rules' name ps.0.0 ds others.0, ps.0.1), others.1))
-      go3 ds (Ok others) = h
-      go3 ds (Err e) = tt
-
-      go2 : (found : Read R' T' B' (List (Dependency A' B' S')))
-          → HeaderExceeds other view' rules' m (found >>= λ priors. r.subsequents other priors.1 >>= λ others. Ok ((r.header_of other view' rules' name ps.0.0 priors.0 others.0, ps.0.1), others.1))
-      go2 (Ok priors) = go3 priors.0 (r.subsequents other priors.1)
-      go2 (Err e) = tt
-
-      go : (found : Read R' T' B' (Unit {0}))
-          → HeaderExceeds other view' rules' m (found >>= λ checked. r.dependencies other checked.1 >>= λ priors. r.subsequents other priors.1 >>= λ others. Ok ((r.header_of other view' rules' name ps.0.0 priors.0 others.0, ps.0.1), others.1))
-      go (Ok checked) = go2 (r.dependencies other checked.1)
-      go (Err e) = tt
+  rest_exceeds m name found h =
+      let Q : ReadHeader T' A' B' S' × Counters → Type 0 = λ y. m.bindings < y.1.bindings in
+      after_all found _ Q (λ ps is. after_all (obeying (undefined_broken (view' ps.1.run) ps.0.0 rules') ps.1) _ Q (λ checked _.
+      after_all (r.dependencies other checked.1) _ Q (λ priors _. after_all (r.subsequents other priors.1) _ Q (λ others _.
+      known ps (λ y. m.bindings < y.0.1.bindings) is h))))
 
   -- the law
   pub header_natural : (n : Counters) {s : State R T B} {s' : State R' T' B'} → States rel s s'

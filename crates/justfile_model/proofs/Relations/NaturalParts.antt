@@ -1,6 +1,6 @@
 -- The parsers of the parts of items are natural in their tokens and leaves: for related tokens they parse related paths, names and values,
 -- and take the same numbers. If one parser has no number left, the other can continue.
-use Rattle.std.proofs.Common.{◌≡◌, ℕ, zero, suc, ◌+◌, ◌<◌, ◌≤◌, Bool, true, false, ◌||◌, cond, List, [], ◌∷◌, ◌++◌, length, Option, Some, None, Ok, Err, IfOk, IsOk, codes, refl, sym, ap, subst, ◌∙◌, arith}
+use Rattle.std.proofs.Common.{◌≡◌, ℕ, ◌+◌, ◌<◌, ◌≤◌, Bool, true, false, ◌||◌, List, [], ◌∷◌, ◌++◌, length, Option, Some, None, Ok, Err, IfOk, IsOk, codes, refl, sym, ap, subst, ◌∙◌, arith}
 use Rattle.justfile_vocabulary.specs.Indentation.{indentation_refusal}
 use Rattle.justfile_vocabulary.specs.Keyword.{keyword_named}
 use Rattle.justfile_token.specs.StringKind.{kind_of}
@@ -17,8 +17,8 @@ use Rattle.justfile_model.specs.LiteralTexts.Literals.{string_of}
 use Rattle.justfile_model.specs.Meanings.Meaning.{quoted_text}
 use Rattle.justfile_model.specs.Readers.PartReader as r
 use Rattle.justfile_model.specs.Readers.PartReader.{accept_keyword_before, after_numbered}
-use Rattle.justfile_model.specs.Readers.ReaderState.{◌>>=◌, Counters, Leaves, NoNumber, Read, State, Taken, accept, choose, expect, is_word}
-use Rattle.justfile_model.specs.Meanings.Rules.{Broken, InvalidIndentation, Rule, broken_if}
+use Rattle.justfile_model.specs.Readers.ReaderState.{◌>>=◌, Counters, Leaves, Read, State, Taken, accept, choose, expect, is_word}
+use Rattle.justfile_model.specs.Meanings.Rules.{Broken, InvalidIndentation, broken_if}
 use Rattle.justfile_model.specs.Meanings.SettingRules.{literal_broken, plain_literal, text_broken, value_broken, version_broken}
 use Rattle.justfile_model.specs.Grammars.Settings.{ExpressionForm, InterpreterForm, PlainForm, SettingForm, TruthForm}
 use Rattle.justfile_model.specs.Trees.LeafView.{LeafView}
@@ -34,9 +34,10 @@ use Rattle.justfile_model.proofs.Relations.NaturalExpressions.{Reads, natural, s
 use Rattle.justfile_model.proofs.Relations.NaturalHeaders.{obeying_natural, pick_known, value_alike}
 use Rattle.justfile_model.proofs.Relations.NewAttributesAlike.{quoted_place, same_quoted_text}
 use Rattle.justfile_model.proofs.Readers.PartReading.{names_is, numbered_name_goes}
-use Rattle.justfile_model.proofs.Readers.ReadingSteps.{accepts, past}
+use Rattle.justfile_model.proofs.Readers.ReadingSteps.{accepts, after_all, after_choice, by_size, known, past}
 use Rattle.justfile_model.proofs.Relations.Related as a
-use Rattle.justfile_model.proofs.Relations.Related.{Alike, AlikeAll, AlikeNames, AlikeValue, Each, Related, Relations, Respects, States, Takes, accepted, accepted_word, bind, bind_short, both, by_tests, cooked_alike, each_length, entered, expected, neither, none_taken, pick, refused_alike, same_next, short, taken, unexpected, weaken}
+use Rattle.justfile_model.proofs.Relations.Related.{Alike, AlikeAll, AlikeNames, AlikeValue, Each, Related, Relations, Respects, States, Takes, accepted, accepted_word, bind, bind_short, both, by_tests, cooked_alike, draw, each_length, entered, expected, neither, none_taken, pick, refused_alike, same_next, short, take_tested, taken, unexpected, weaken}
+use Rattle.justfile_model.proofs.Relations.AlikeRecipes.{broken_if_alike, unless_alike}
 
 module _ {R T A B S D R' T' A' B' S' D' : Type 0} (rel : Relations R T A B S D R' T' A' B' S' D') (current : VersionNumbers) (view : LeafView A B)
     (view' : LeafView A' B') (sees : SeesAlike rel view view') where
@@ -46,19 +47,15 @@ module _ {R T A B S D R' T' A' B' S' D' : Type 0} (rel : Relations R T A B S D R
   Refuses = Each (AlikeBroken rel.position)
 
   -- a rule that is broken or not
-  broken_if_alike : (b : Bool) {r : Rule B} {r' : Rule B'} {t : B} {t' : B'} → AlikeRule rel.position r r' → rel.position t t' → Refuses (broken_if b r t) (broken_if b r' t')
-  broken_if_alike true h k = a.cons (record { rule = h; token = k }) a.nil
-  broken_if_alike false h k = a.nil
-
   version_alike : {b : B} {b' : B'} (text : List ℕ) (o : Option VersionNumbers) → rel.position b b'
       → Refuses (version_broken current b text o) (version_broken current b' text o)
-  version_alike text None h = broken_if_alike true (broken.invalid_version refl) h
-  version_alike text (Some minimum) h = broken_if_alike (is_above minimum current) (broken.minimum_version refl refl) h
+  version_alike text None h = broken_if_alike rel.position true true refl (broken.invalid_version refl) h
+  version_alike text (Some minimum) h = broken_if_alike rel.position (is_above minimum current) (is_above minimum current) refl (broken.minimum_version refl refl) h
 
   indentation_alike : {b : B} {b' : B'} (o : Option (List ℕ)) → rel.position b b'
       → Refuses (of_some (λ message. broken_if true (InvalidIndentation message) b) o) (of_some (λ message. broken_if true (InvalidIndentation message) b') o)
   indentation_alike None h = a.nil
-  indentation_alike (Some message) h = broken_if_alike true (broken.invalid_indentation refl) h
+  indentation_alike (Some message) h = broken_if_alike rel.position true true refl (broken.invalid_indentation refl) h
 
   text_alike : (keyword : Keyword) {b : B} {b' : B'} (text : List ℕ) → rel.position b b' → Refuses (text_broken current keyword b text) (text_broken current keyword b' text)
   text_alike words.Indentation text h = indentation_alike (indentation_refusal text) h
@@ -72,20 +69,14 @@ module _ {R T A B S D R' T' A' B' S' D' : Type 0} (rel : Relations R T A B S D R
 
   literal_alike : (keyword : Keyword) {b : B} {b' : B'} {o : Option (Quoted A)} {o' : Option (Quoted A')} → rel.position b b' → AlikeOption (AlikeQuoted rel) o o'
       → Refuses (literal_broken current view keyword b o) (literal_broken current view' keyword b' o')
-  literal_alike keyword h absent = broken_if_alike true broken.setting_expression h
+  literal_alike keyword h absent = broken_if_alike rel.position true true refl broken.setting_expression h
   literal_alike keyword h (present {x = q} {y = q'} k) =
       subst (λ (text : Option (List ℕ)). Refuses (of_some (text_broken current keyword (view.place q.token)) (quoted_text view q)) (of_some (text_broken current keyword (view'.place q'.token)) text))
       (same_quoted_text rel view view' sees k) (some_text_alike keyword (quoted_text view q) (quoted_place rel view view' sees k))
 
-  unless_alike : (b b' : Bool) {q : Quoted A} {q' : Quoted A'} → b ≡ b' → AlikeQuoted rel q q' → AlikeOption (AlikeQuoted rel) (cond b None (Some q)) (cond b' None (Some q'))
-  unless_alike true true e h = absent
-  unless_alike false false e h = present h
-  unless_alike true false e h = cc
-  unless_alike false true e h = cc
-
   plain_alike : {e : Expr A B} {e' : Expr A' B'} → Alike rel e e' → AlikeOption (AlikeQuoted rel) (plain_literal current view e) (plain_literal current view' e')
   plain_alike (a.string {expanded = false} lexeme {a = t} {a' = t'} h) =
-      unless_alike _ _ (ap (λ bytes. (kind_of bytes).indented) (sees.literal_bytes (string_of false lexeme) t t' h)) (record { expanded = refl; lexeme = lexeme; token = h })
+      unless_alike _ _ (ap (λ bytes. (kind_of bytes).indented) (sees.literal_bytes (string_of false lexeme) t t' h)) (present (record { expanded = refl; lexeme = lexeme; token = h }))
   plain_alike (a.string {expanded = true} lexeme h) = absent
   plain_alike _ = absent
 
@@ -125,13 +116,6 @@ module _ {R T A B S D R' T' A' B' S' D' : Type 0} (rel : Relations R T A B S D R
       → r.line_is one (kinds.Identifier ∷ []) s ≡ r.line_is other (kinds.Identifier ∷ []) s'
   same_unexported h = same_line (kinds.Identifier ∷ []) h
 
-  kept_if : (b b' : Bool) {t : T} {t' : T'} {s : State R T B} {s' : State R' T' B'} → b ≡ b' → rel.token t t' → States rel s s'
-      → Takes rel (cond b (Some (t, s)) None) (cond b' (Some (t', s')) None)
-  kept_if true true e h k = a.taken h k
-  kept_if false false e h k = a.none_taken
-  kept_if true false e h k = cc
-  kept_if false true e h k = cc
-
   -- both parsers take a keyword with these next tokens, or neither does
   pub accepted_before : (word : List ℕ) (follows : State R T B → Bool) (follows' : State R' T' B' → Bool)
       → ((s : State R T B) (s' : State R' T' B') → States rel s s' → follows s ≡ follows' s') → {s : State R T B} {s' : State R' T' B'} → States rel s s'
@@ -141,7 +125,7 @@ module _ {R T A B S D R' T' A' B' S' D' : Type 0} (rel : Relations R T A B S D R
     where
       go : {o : Taken R T B} {o' : Taken R' T' B'} → Takes rel o o' → Takes rel (r.if_follows one follows o) (r.if_follows other follows' o')
       go a.none_taken = a.none_taken
-      go (a.taken {s = s} {s' = s'} t k) = kept_if (follows s) (follows' s') (same s s' k) t k
+      go (a.taken {s = s} {s' = s'} t k) = take_tested rel (follows s) (follows' s') (same s s' k) t k
 
   -- ---- paths of files
 
@@ -282,38 +266,28 @@ module _ {R' T' A' B' S' : Type 0} (other : Leaves R' T' A' B' S') where
       go (Ok y) is = omega (arith, ap (λ (c : Counters). c.bindings) is, parameters_bindings x.0 y.0.0)
       go (Err e) is = tt
 
-  end_grows : (n : Counters) (s : State R' T' B') → Grows n (r.names_end other n s)
-  unfolding r.names_end
-  end_grows n s = go (expect other kinds.ParenR s)
-    where
-      go : (found : Read R' T' B' T') → Grows n (found >>= λ closer. Ok (([], n), closer.1))
-      go (Ok closer) = omega arith
-      go (Err e) = tt
-
   -- what comes after a name
   abbrev Rest : (A' × Counters) × State R' T' B' → Read R' T' B' (List A' × Counters)
   Rest name = choose (accept other kinds.Comma name.1) (r.names_end other name.0.1 name.1) (λ comma. r.names other (name.0.1, comma.1))
 
   rest_grows : (name : (A' × Counters) × State R' T' B') → Grows name.0.1 (Rest name)
-  rest_grows name = go (accept other kinds.Comma name.1)
-    where
-      go : (o : Taken R' T' B') → Grows name.0.1 (choose o (r.names_end other name.0.1 name.1) (λ comma. r.names other (name.0.1, comma.1)))
-      go None = end_grows name.0.1 name.1
-      go (Some comma) = names_grow (name.0.1, comma.1)
-
-  higher_after : (n : Counters) (found : Read R' T' B' (A' × Counters)) → Higher n found → Higher n (found >>= λ name. after_numbered (name.0.0 ∷ []) (Rest name))
-  unfolding after_numbered
-  higher_after n (Err e) h = tt
-  higher_after n (Ok name) h = go (Rest name) (rest_grows name)
-    where
-      go : (found : Read R' T' B' (List A' × Counters)) → Grows name.0.1 found → Higher n (found >>= λ more. Ok ((name.0.0 ∷ more.0.0, more.0.1), more.1))
-      go (Ok more) k = omega (arith, h, k)
-      go (Err e) k = tt
+  unfolding r.names_end
+  rest_grows name =
+      let Q : List A' × Counters → Type 0 = λ y. name.0.1.bindings ≤ y.1.bindings in
+      after_choice (accept other kinds.Comma name.1) _ _ Q (after_all (expect other kinds.ParenR name.1) _ Q (λ closer _. omega arith))
+      (λ comma. names_grow (name.0.1, comma.1))
 
   higher_then : (m : Counters) (done : List A') (found : Read R' T' B' (List A' × Counters)) → Higher m found → Higher m (after_numbered done found)
   unfolding after_numbered
-  higher_then m done (Ok y) h = h
-  higher_then m done (Err e) h = tt
+  higher_then m done found h =
+      after_all found _ (λ y. m.bindings < y.1.bindings) (λ more is. known more (λ y. m.bindings < y.0.1.bindings) is h)
+
+  higher_after : (n : Counters) (found : Read R' T' B' (A' × Counters)) → Higher n found → Higher n (found >>= λ name. after_numbered (name.0.0 ∷ []) (Rest name))
+  unfolding after_numbered
+  higher_after n found h =
+      let Q : List A' × Counters → Type 0 = λ y. n.bindings < y.1.bindings in
+      after_all found _ Q (λ name is. after_all (Rest name) _ Q (λ more is2.
+      omega (arith, known name (λ y. n.bindings < y.0.1.bindings) is h, known more (λ y. name.0.1.bindings ≤ y.0.1.bindings) is2 (rest_grows name))))
 
 module _ {R T A B S D R' T' A' B' S' D' : Type 0} (rel : Relations R T A B S D R' T' A' B' S' D') (one : Leaves R T A B S) (other : Leaves R' T' A' B' S') (agree : Respects rel one other) where
   -- a name with its number
@@ -349,18 +323,10 @@ module _ {R T A B S D R' T' A' B' S' D' : Type 0} (rel : Relations R T A B S D R
       (next_binding_number one n s >>= In name)
       (next_binding_number other n s' >>= Other name')
   unfolding next_binding_number
-  draw_alike n name name' t {s} {s'} h = go (one.has_number n.bindings) (other.has_number n.bindings) refl refl
-    where
-      go : (b b' : Bool) → one.has_number n.bindings ≡ b → other.has_number n.bindings ≡ b'
-          → Related rel (Numbered n) (λ m found. (m ≡ n) × (one.has_number n.bindings ≡ false) × (other.has_number n.bindings ≡ true → IsOk found) × Higher other n found)
-          (cond b (Ok ((n.bindings, with_bindings (n.bindings + 1) n), s)) (Err (NoNumber n)) >>= In name)
-          (cond b' (Ok ((n.bindings, with_bindings (n.bindings + 1) n), s')) (Err (NoNumber n)) >>= Other name')
-      go true true is is' = both (record { name = agree.function_parameter s.run s'.run name name' h.run t n.bindings; same = refl; counts = refl }) h
-      go true false is is' = let left = agree.has_number n.bindings is in cc
-      go false true is is' =
-          short {found = Ok ((n.bindings, with_bindings (n.bindings + 1) n), s') >>= Other name'}
-          (refl, is, (λ _. refl), omega arith)
-      go false false is is' = short {found = Err (NoNumber n)} (refl, is, (λ has. cc), tt)
+  draw_alike n name name' t {s} {s'} h =
+      draw rel (one.has_number n.bindings) (other.has_number n.bindings) n _ _ _ _ (agree.has_number n.bindings)
+      (both (record { name = agree.function_parameter s.run s'.run name name' h.run t n.bindings; same = refl; counts = refl }) h)
+      (λ is _. (refl, is, (λ _. refl), omega arith)) (λ is is'. (refl, is, (λ has. cc), tt))
 
   drawn_natural : (n : Counters) {s : State R T B} {s' : State R' T' B'} → States rel s s'
       → Related rel (Numbered n) (λ m found. (m ≡ n) × (one.has_number n.bindings ≡ false) × (other.has_number n.bindings ≡ true → IsOk found) × Higher other n found)
@@ -386,53 +352,50 @@ module _ {R T A B S D R' T' A' B' S' D' : Type 0} (rel : Relations R T A B S D R
   abbrev Lacking : Counters → State R' T' B' → Counters → Read R' T' B' (List A' × Counters) → Type 0
   Lacking n s' m found = NoName (LacksName other (n, s')) m found
 
-  module _ (most : ℕ) (all : (n : Counters) (s : State R T B) (s' : State R' T' B') → length s.left < most → States rel s s'
-      → Related rel (AlikeRead n) (Lacking n s') (r.names one (n, s)) (r.names other (n, s'))) where
-    rest_alike : (n c : Counters) (x : A) (x' : A') (from : State R' T' B') {s : State R T B} {s' : State R' T' B'} → rel.function_parameter n.bindings x x'
-        → c ≡ with_bindings (n.bindings + 1) n → r.numbered_name other n from ≡ Ok ((x', c), s') → length s.left < most → States rel s s'
-        → Related rel (AlikeRead n) (Lacking n from)
-        (after_numbered (x ∷ []) (choose (accept one kinds.Comma s) (r.names_end one c s) (λ comma. r.names one (c, comma.1))))
-        (after_numbered (x' ∷ []) (choose (accept other kinds.Comma s') (r.names_end other c s') (λ comma. r.names other (c, comma.1))))
-    unfolding after_numbered
-    rest_alike n c x x' from {s} {s'} q counts is less h =
-        let next : Related rel (AlikeRead c) (Lacking n from) (choose (accept one kinds.Comma s) (r.names_end one c s) (λ comma. r.names one (c, comma.1)))
-        (choose (accept other kinds.Comma s') (r.names_end other c s') (λ comma. r.names other (c, comma.1))) =
-        pick_known rel _ _ (accepted rel one other agree kinds.Comma h) (weaken rel (λ y z k. k) (λ m never. absurd never) (end_natural c h))
-        (λ p p' taken k. weaken rel (λ y z k. k) (λ m w. record { lacks = later_lacks is taken w.lacks; ends = w.ends; exceeds = w.exceeds }) (all c p.1 p'.1
-        (omega (arith, less, each_length h.left, each_length k.left, (accepts other kinds.Comma s' p' taken).0)) k)) in
-        bind_short rel _ _ next
-        (λ m w. record {
-          lacks = w.lacks;
-          ends = w.ends;
-          exceeds = higher_then other m (x' ∷ []) (choose (accept other kinds.Comma s') (r.names_end other c s') (λ comma. r.names other (c, comma.1))) w.exceeds;
-        })
-        (λ y z is2 is3 k j. both (record {
-          names = a.a_name q (subst (λ (c : Counters). AlikeNames rel c.bindings y.0.0 z.0.0) counts k.names);
-          same = k.same;
-          counts = k.counts ∙ ap (λ (c : Counters). after_parameters c y.0.0) counts;
-        }) j)
+  abbrev AllAlike : Counters × State R T B → Type 0
+  AllAlike x = (s' : State R' T' B') → States rel x.1 s' → Related rel (AlikeRead x.0) (Lacking x.0 s') (r.names one x) (r.names other (x.0, s'))
 
-    step : (n : Counters) (s : State R T B) (s' : State R' T' B') → length s.left ≤ most → States rel s s'
-        → Related rel (AlikeRead n) (Lacking n s') (r.names one (n, s)) (r.names other (n, s'))
-    unfolding r.names_rule
-    step n s s' few h =
-        rw (names_is one (n, s), names_is other (n, s'))
-        (pick rel _ _ (accepted rel one other agree kinds.ParenR h)
-        (bind_short rel _ _ (numbered_natural n h)
-        (λ m w. record { lacks = w.lacks; ends = w.ends; exceeds = higher_after other m (r.numbered_name other n s') w.exceeds })
-        (λ x x' is is' q k. subst (λ (c : Counters). r.numbered_name other n s' ≡ Ok ((x'.0.0, c), x'.1) → Related rel (AlikeRead n) (Lacking n s')
-        (after_numbered (x.0.0 ∷ []) (choose (accept one kinds.Comma x.1) (r.names_end one x.0.1 x.1) (λ comma. r.names one (x.0.1, comma.1))))
-        (after_numbered (x'.0.0 ∷ []) (choose (accept other kinds.Comma x'.1) (r.names_end other c x'.1) (λ comma. r.names other (c, comma.1)))))
-        q.same (λ numbered. rest_alike n x.0.1 x.0.0 x'.0.0 s' q.name q.counts numbered
-        (omega (arith, few, (past s _ x (numbered_name_goes one n s) is).0)) k) is'))
-        (λ c c' t k. both (record { names = a.no_name; same = refl; counts = refl }) k))
+  rest_alike : (start : State R T B) → ((y : Counters × State R T B) → length y.1.left < length start.left → AllAlike y)
+      → (n c : Counters) (x : A) (x' : A') (from : State R' T' B') {s : State R T B} {s' : State R' T' B'} → rel.function_parameter n.bindings x x'
+      → c ≡ with_bindings (n.bindings + 1) n → r.numbered_name other n from ≡ Ok ((x', c), s') → length s.left < length start.left → States rel s s'
+      → Related rel (AlikeRead n) (Lacking n from)
+      (after_numbered (x ∷ []) (choose (accept one kinds.Comma s) (r.names_end one c s) (λ comma. r.names one (c, comma.1))))
+      (after_numbered (x' ∷ []) (choose (accept other kinds.Comma s') (r.names_end other c s') (λ comma. r.names other (c, comma.1))))
+  unfolding after_numbered
+  rest_alike start all n c x x' from {s} {s'} q counts is less h =
+      let next : Related rel (AlikeRead c) (Lacking n from) (choose (accept one kinds.Comma s) (r.names_end one c s) (λ comma. r.names one (c, comma.1)))
+      (choose (accept other kinds.Comma s') (r.names_end other c s') (λ comma. r.names other (c, comma.1))) =
+      pick_known rel _ _ (accepted rel one other agree kinds.Comma h) (weaken rel (λ y z k. k) (λ m never. absurd never) (end_natural c h))
+      (λ p p' taken k. weaken rel (λ y z k. k) (λ m w. record { lacks = later_lacks is taken w.lacks; ends = w.ends; exceeds = w.exceeds }) (all (c, p.1)
+      (omega (arith, less, each_length h.left, each_length k.left, (accepts other kinds.Comma s' p' taken).0)) p'.1 k)) in
+      bind_short rel _ _ next
+      (λ m w. record {
+        lacks = w.lacks;
+        ends = w.ends;
+        exceeds = higher_then other m (x' ∷ []) (choose (accept other kinds.Comma s') (r.names_end other c s') (λ comma. r.names other (c, comma.1))) w.exceeds;
+      })
+      (λ y z is2 is3 k j. both (record {
+        names = a.a_name q (subst (λ (c : Counters). AlikeNames rel c.bindings y.0.0 z.0.0) counts k.names);
+        same = k.same;
+        counts = k.counts ∙ ap (λ (c : Counters). after_parameters c y.0.0) counts;
+      }) j)
 
-  all_names : (most : ℕ) (n : Counters) (s : State R T B) (s' : State R' T' B') → length s.left < most → States rel s s'
-      → Related rel (AlikeRead n) (Lacking n s') (r.names one (n, s)) (r.names other (n, s'))
-  all_names zero n s s' less h = absurd (omega (arith, less))
-  all_names (suc most) n s s' less h = step most (all_names most) n s s' (omega (arith, less)) h
+  all_names : (x : Counters × State R T B) → AllAlike x
+  unfolding r.names_rule
+  all_names =
+      by_size (λ (x : Counters × State R T B). length x.1.left) AllAlike (λ start all s' h.
+      let n = start.0 in
+      rw (names_is one start, names_is other (n, s'))
+      (pick rel _ _ (accepted rel one other agree kinds.ParenR h)
+      (bind_short rel _ _ (numbered_natural n h)
+      (λ m w. record { lacks = w.lacks; ends = w.ends; exceeds = higher_after other m (r.numbered_name other n s') w.exceeds })
+      (λ x x' is is' q k. subst (λ (c : Counters). r.numbered_name other n s' ≡ Ok ((x'.0.0, c), x'.1) → Related rel (AlikeRead n) (Lacking n s')
+      (after_numbered (x.0.0 ∷ []) (choose (accept one kinds.Comma x.1) (r.names_end one x.0.1 x.1) (λ comma. r.names one (x.0.1, comma.1))))
+      (after_numbered (x'.0.0 ∷ []) (choose (accept other kinds.Comma x'.1) (r.names_end other c x'.1) (λ comma. r.names other (c, comma.1)))))
+      q.same (λ numbered. rest_alike start.1 all n x.0.1 x.0.0 x'.0.0 s' q.name q.counts numbered (past start.1 _ x (numbered_name_goes one n start.1) is).0 k) is'))
+      (λ c c' t k. both (record { names = a.no_name; same = refl; counts = refl }) k)))
 
   -- the law
   pub names_natural : (n : Counters) {s : State R T B} {s' : State R' T' B'} → States rel s s'
       → Related rel (AlikeRead n) (NoName (LacksName other (n, s'))) (r.names one (n, s)) (r.names other (n, s'))
-  names_natural n {s} {s'} h = all_names (suc (length s.left)) n s s' (omega arith) h
+  names_natural n {s} {s'} h = all_names (n, s) s' h

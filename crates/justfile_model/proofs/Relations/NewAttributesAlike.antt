@@ -150,8 +150,7 @@ module _ {R T A B S D R' T' A' B' S' D' : Type 0} (rel : Relations R T A B S D R
       same_is_option : {n : OptionName A B} {n' : OptionName A' B'} → AlikeOptionName rel n n'
           → new.is_option view at argument n ≡ new.is_option view' at' argument' n'
       same_is_option alike.no_option = refl
-      same_is_option (alike.own_name k) = refl
-      same_is_option (alike.option_named q) = refl
+      same_is_option _ = refl
 
       wanted_alike : {l s : OptionName A B} {l' s' : OptionName A' B'} (k : KeyArgument A B) (k' : KeyArgument A' B') → AlikeOptionName rel l l'
           → AlikeOptionName rel s s' → AlikeKey rel k k'
@@ -289,8 +288,6 @@ module _ {R T A B S D R' T' A' B' S' D' : Type 0} (rel : Relations R T A B S D R
 
   pub duplicate_alike : {n f : B} {n' f' : B'} {x : Attribute A B} {x' : Attribute A' B'} → rel.position n n' → AlikeAttribute rel x x' → rel.position f f'
       → AlikeRule rel.position (duplicate_rule view n x f) (duplicate_rule view' n' x' f')
-  duplicate_alike n (alike.plain kind) f = broken.duplicate n f
-  duplicate_alike n (alike.single kind e) f = broken.duplicate n f
   duplicate_alike n (alike.texts attributes.Group a.nil) f = broken.duplicate n f
   duplicate_alike n (alike.texts attributes.Group (a.cons q qs)) f = broken.duplicate_group (same_value q) (quoted_place q) f
   duplicate_alike n (alike.texts kind qs) f = broken.duplicate n f

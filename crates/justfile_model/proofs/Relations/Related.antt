@@ -233,17 +233,9 @@ module _ {R T A B S D R' T' A' B' S' D' : Type 0} (rel : Relations R T A B S D R
   same_ends _ = refl
 
   pub same_body : {n : Counters} {i : Item A B ℕ S D} {i' : Item A' B' ℕ S' D'} → AlikeItem n i i' → has_body i ≡ has_body i'
-  same_body newline = refl
-  same_body comment = refl
-  same_body (alias d a t) = refl
-  same_body (assignment d a e) = refl
-  same_body (function d a ps e) = refl
-  same_body (import d q) = refl
-  same_body (module_of d a o) = refl
-  same_body (setting d a v) = refl
-  same_body (unexport d a) = refl
   same_body (recipe d a e nil) = refl
   same_body (recipe d a e (cons l ls)) = refl
+  same_body _ = refl
 
   before_alike : {l : BodyLine A B ℕ} {l' : BodyLine A' B' ℕ} {ls : List (BodyLine A B ℕ)} {ls' : List (BodyLine A' B' ℕ)} → AlikeLine l l' → Each AlikeLine ls ls' → Each AlikeLine (line_before l ls) (line_before l' ls')
   before_alike (line nil) nil = nil
@@ -288,8 +280,7 @@ module _ {R T A B S D R' T' A' B' S' D' : Type 0} (rel : Relations R T A B S D R
   pub noted_if_alike : (f g : Option ListFeature) {b : B} {b' : B'} → f ≡ g → rel.position b b' → Each AlikeNoted (noted_if f b) (noted_if g b')
   noted_if_alike None None e h = nil
   noted_if_alike (Some f) (Some g) e h = cons (same_feature f g e, h) nil
-  noted_if_alike None (Some g) e h = cc
-  noted_if_alike (Some f) None e h = cc
+  noted_if_alike _ _ e h = cc
 
   pub opened_alike : (k : Level) {s : State R T B} {s' : State R' T' B'} → States s s' → States (opened k s) (opened k s')
   opened_alike levels.Expression h = record { run = h.run; depth = ap (λ n. n + 1) h.depth; left = h.left; noted = h.noted }
@@ -367,8 +358,17 @@ module _ {R T A B S D R' T' A' B' S' D' : Type 0} (rel : Relations R T A B S D R
   pub by_tests : {X Y : Type 0} {Q : X → Y → Type 0} {Short : Counters → Read R' T' B' Y → Type 0} (b b' : Bool) {x y : Read R T B X} {x' y' : Read R' T' B' Y} → b ≡ b' → Related Q Short x x' → Related Q Short y y' → Related Q Short (cond b x y) (cond b' x' y')
   by_tests true true e h k = h
   by_tests false false e h k = k
-  by_tests true false e h k = cc
-  by_tests false true e h k = cc
+  by_tests _ _ e h k = cc
+
+  -- a number is drawn by both, or the first has none
+  pub draw : {V V' X Y : Type 0} {Q : X → Y → Type 0} {Short : Counters → Read R' T' B' Y → Type 0} (b b' : Bool) (n : Counters) (v : V × State R T B) (v' : V' × State R' T' B')
+      (f : V × State R T B → Read R T B X) (f' : V' × State R' T' B' → Read R' T' B' Y) → (b ≡ true → b' ≡ true) → Related Q Short (f v) (f' v')
+      → (b ≡ false → b' ≡ true → Short n (f' v')) → (b ≡ false → b' ≡ false → Short n (Err (NoNumber n)))
+      → Related Q Short (cond b (Ok v) (Err (NoNumber n)) >>= f) (cond b' (Ok v') (Err (NoNumber n)) >>= f')
+  draw true true n v v' f f' has h first second = h
+  draw true false n v v' f f' has h first second = let left = has refl in cc
+  draw false true n v v' f f' has h first second = short (first refl refl)
+  draw false false n v v' f f' has h first second = short (second refl refl)
 
   -- an expression that is entered within the limit, or is too deep
   module _ {X Y : Type 0} {Q : X → Y → Type 0} {Short : Counters → Read R' T' B' Y → Type 0} {x : Read R T B X} {x' : Read R' T' B' Y} {s : State R T B} {s' : State R' T' B'} (h : States s s') (inside : Related Q Short x x') where
@@ -407,11 +407,10 @@ module _ {R T A B S D R' T' A' B' S' D' : Type 0} (rel : Relations R T A B S D R
   pick f f' none_taken h k = h
   pick f f' (taken {t = t} {t' = t'} {s = s} {s' = s'} e h2) h k = k (t, s) (t', s') e h2
 
-  take_tested : (b b' : Bool) {t : T} {t' : T'} {s : State R T B} {s' : State R' T' B'} → b ≡ b' → rel.token t t' → States s s' → Takes (cond b (Some (t, s)) None) (cond b' (Some (t', s')) None)
+  pub take_tested : (b b' : Bool) {t : T} {t' : T'} {s : State R T B} {s' : State R' T' B'} → b ≡ b' → rel.token t t' → States s s' → Takes (cond b (Some (t, s)) None) (cond b' (Some (t', s')) None)
   take_tested true true e h k = taken h k
   take_tested false false e h k = none_taken
-  take_tested true false e h k = cc
-  take_tested false true e h k = cc
+  take_tested _ _ e h k = cc
 
   pub data Meets : Met R T B → Met R' T' B' → Type 0 where
     none_met : Meets None None
@@ -491,8 +490,7 @@ module _ {R T A B S D R' T' A' B' S' D' : Type 0} (rel : Relations R T A B S D R
     met_alike level (Some o) (Some o') {t} {t'} {s} {s'} {ts} {ts'} e h k j =
         let same : o ≡ o' = cc in
         subst (λ p. Meets (met_at one level s t ts (Some o)) (met_at other level s' t' ts' (Some p))) same (meet_tested (is_at level o) o h (at_alike k j))
-    met_alike level None (Some o') e h k j = cc
-    met_alike level (Some o) None e h k j = cc
+    met_alike level _ _ e h k j = cc
 
     operator_alike : (level : Level) {s : State R T B} {s' : State R' T' B'} {ts : List T} {ts' : List T'} → States s s' → Each rel.token ts ts' → Meets (operator_by one level s ts) (operator_by other level s' ts')
     operator_alike level h nil = none_met

@@ -1,9 +1,8 @@
 -- Attribute lines that are parsed derive, with the features that the parser notes. Their literals have texts, they break no rule, and each
 -- attribute has the meaning that was made of it.
-use Rattle.std.proofs.Common.{◌≡◌, ℕ, Bool, true, false, List, [], ◌∷◌, ◌++◌, length, map, Option, Some, None, Ok, Err, IfOk, refl, sym, subst, subst₂, ap, ◌∙◌, append_assoc, append-nil}
+use Rattle.std.proofs.Common.{◌≡◌, ℕ, Bool, true, false, List, [], ◌∷◌, ◌++◌, map, Option, Some, None, Ok, Err, refl, sym, subst, subst₂, ap, ◌∙◌, append_assoc, append-nil}
 use Rattle.std.specs.List.{flat_map}
 use Rattle.std.specs.Option.{option_map}
-use Rattle.std.specs.Str.{trim_end}
 use Rattle.std.proofs.lemmas.Grind.{flat_map-append}
 use Rattle.std.proofs.lemmas.List.{map-append}
 use Rattle.justfile_vocabulary.specs.AttributeKind.{kind_named, takes_keys}
@@ -28,18 +27,16 @@ use Rattle.justfile_model.specs.Lexing.SignificantTokens.{SignificantToken}
 use Rattle.justfile_model.specs.Lexing.Tok.{Tok}
 use Rattle.justfile_model.specs.Trees.Tree as tree
 use Rattle.justfile_model.specs.Trees.Tree.{Argument, Entry, Expr, WrittenAttribute, bare_attribute, commented, commented_attribute, commented_entry, commented_line, itself}
-use Rattle.justfile_model.specs.Readers.TreeReader.{Read, ReadError, State, token_leaves, read_attributes}
+use Rattle.justfile_model.specs.Readers.TreeReader.{Read, State, token_leaves, read_attributes}
 use Rattle.justfile_model.proofs.Completeness.AttributeSteps.{AllMade, Follow, Follows, IsNew, key_is_next, key_taken, keys_append, none, more, none_broken, made_append, made_commented, made_mean, none_follow, one_follows}
 use Rattle.justfile_model.proofs.Printed.Commented.{commented_after, commented_literals, commented_map, some_bracketed}
-use Rattle.justfile_model.proofs.Derivations.CookedTexts.{AllCook}
 use Rattle.justfile_model.proofs.Sound.ExpressionSound as e
-use Rattle.justfile_model.proofs.Sound.ExpressionSound.{Derived, Here, expression_derives}
-use Rattle.justfile_model.proofs.Readers.Meets.{Met, nothing_met, both_met, all_met}
+use Rattle.justfile_model.proofs.Sound.ExpressionSound.{Derived, Here, again, alone, begins, ends, followed, plainly}
 use Rattle.justfile_model.proofs.Meanings.NewAttributeLaws.{entry_made}
-use Rattle.justfile_model.proofs.Readers.ReadingSteps.{after_test, known}
-use Rattle.justfile_model.proofs.Readers.Steps.{after_bind, after_choose, after_expect, weaken}
+use Rattle.justfile_model.proofs.Readers.ReadingSteps.{after_test, loop_has}
+use Rattle.justfile_model.proofs.Readers.Steps.{Holds, failed, holds, if_expected, if_next, read_then, true_not_false, weaken}
 use Rattle.justfile_model.proofs.Readers.TokenAttributes as reader
-use Rattle.justfile_model.proofs.Lists.Turns.{recursive_keeps}
+use Rattle.justfile_model.proofs.Sound.HeaderSound.{Passed, passed, quiet}
 
 -- an argument of an attribute with what is left
 abbrev ReadArgument : Type 0
@@ -52,9 +49,6 @@ entries_in = map entry_read
 
 abbrev pub written_in : List ReadAttribute → List (WrittenAttribute Tok Tok)
 written_in = map (λ (x : ReadAttribute). x.written)
-
-true_not_false : (b : Bool) → b ≡ true → b ≡ false → ⊥
-true_not_false b h k = cc
 
 module _ (conditions : Conditions) where
   -- trees with their tokens, under the limit
@@ -90,21 +84,15 @@ module _ (conditions : Conditions) where
   PlacedAt s x = Derived conditions (IsPlaced x.0) (argument_literals x.0) 0 s x.1
 
   placed_from : (ts : Tokens) (s : State) (e : Expr Tok Tok × State) → s.left ≡ ts → Derived conditions (Expression e.0) (expr_literals e.0) 0 s e.1
-      → IfOk (reader.placed_at (front ts) e) (PlacedAt s)
-  placed_from [] s e split h = tt
-  placed_from (t ∷ ts) s e split h = record {
-    features = h.features;
-    derives = subst (λ (us : Tokens). IsPlaced (tree.Positional t.tok e.0) h.features us e.1.left) (sym split)
-        (placed (subst (λ (us : Tokens). Expression e.0 h.features us e.1.left) split h.derives));
-    met = h.met;
-    stays = h.stays;
-  }
+      → Holds (PlacedAt s) (reader.placed_at (front ts) e)
+  placed_from [] s e split h = failed
+  placed_from (t ∷ ts) s e split h =
+      let V : Tokens → Type 0 = λ us. Expression e.0 h.features us e.1.left in
+      holds (begins split (again h (placed (subst V split h.derives))))
 
-  placed_sound : (s : State) → Here conditions 0 s → IfOk (reader.placed s) (PlacedAt s)
+  placed_sound : (s : State) → Here conditions 0 s → Holds (PlacedAt s) (reader.placed s)
   unfolding r.placed
-  placed_sound s here =
-      after_bind (reader.expression s) _ (λ o. IfOk o (PlacedAt s)) (λ e. tt)
-      (λ e is. placed_from s.left s e refl (expression_derives conditions false 0 s e is here))
+  placed_sound s here = read_then (e.expression_sound conditions s here) (λ x found. placed_from s.left s x refl found)
 
   -- ---- an argument after others
 
@@ -122,24 +110,21 @@ module _ (conditions : Conditions) where
   placed_follows name ks first (placed e) = first
 
   after_a_key : (P : ReadArgument → Type 0) {a : Argument Tok Tok} {fs : List (Noted Tok)} {ts rest : Tokens} (s : State) → IsPlaced a fs ts rest
-      → IfOk (reader.after_keys true (a, s)) P
-  after_a_key P s (placed e) = tt
+      → Holds P (reader.after_keys true (a, s))
+  after_a_key P s (placed e) = failed
 
   ordered_sound : (keys : Bool) (name : Tok) (before : List (Argument Tok Tok)) (s : State) (b : Bool) (x : ReadArgument) → reader.some_key (by_key before) ≡ b
       → (keys ≡ true → IsKey s.left → ⊥) → PlacedAt s x
-      → IfOk (reader.after_keys b x) (IsArgument keys name before s)
+      → Holds (IsArgument keys name before s) (reader.after_keys b x)
   ordered_sound keys name before s true x some not h = after_a_key (IsArgument keys name before s) x.1 h.derives
-  ordered_sound keys name before s false x some not h = record {
-    derived = record { features = h.features; derives = by_position_derives not h.derives; met = h.met; stays = h.stays };
-    follows = placed_follows name (by_key before) some h.derives;
-  }
+  ordered_sound keys name before s false x some not h =
+      holds (record { derived = again h (by_position_derives not h.derives); follows = placed_follows name (by_key before) some h.derives })
 
   positional_sound : (keys : Bool) (name : Tok) (before : List (Argument Tok Tok)) (s : State) → Here conditions 0 s → (keys ≡ true → IsKey s.left → ⊥)
-      → IfOk (reader.positional before s) (IsArgument keys name before s)
+      → Holds (IsArgument keys name before s) (reader.positional before s)
   unfolding r.positional
   positional_sound keys name before s here not =
-      after_bind (reader.placed s) _ (λ o. IfOk o (IsArgument keys name before s)) (λ e. tt)
-      (λ x is. ordered_sound keys name before s (reader.some_key (by_key before)) x refl not (known x (PlacedAt s) is (placed_sound s here)))
+      read_then (placed_sound s here) (λ x found. ordered_sound keys name before s (reader.some_key (by_key before)) x refl not found)
 
   -- the tokens after a key: its value, or no `=`
   data IsValue : Option (Expr Tok Tok) → List (Noted Tok) → Tokens → Tokens → Type 0 where
@@ -150,20 +135,12 @@ module _ (conditions : Conditions) where
   abbrev ValueAt : State → Option (Expr Tok Tok) × State → Type 0
   ValueAt s x = Derived conditions (IsValue x.0) (optional_literals expr_literals x.0) 0 s x.1
 
-  key_value_sound : (s : State) → Here conditions 0 s → IfOk (reader.key_value s) (ValueAt s)
+  key_value_sound : (s : State) → Here conditions 0 s → Holds (ValueAt s) (reader.key_value s)
   unfolding r.key_value
   key_value_sound s here =
-      let P : Read (Option (Expr Tok Tok)) → Type 0 = λ o. IfOk o (ValueAt s) in
-      after_choose kinds.Equals s _ _ P
-      (λ not. record { features = []; derives = nothing not; met = nothing_met; stays = here })
-      (λ equals rest split kind. after_bind (reader.expression (at s rest)) _ P (λ e. tt) (λ e is.
-      let found = expression_derives conditions false 0 (at s rest) e is here in
-      record {
-        features = found.features;
-        derives = subst (λ (ts : Tokens). IsValue (Some e.0) found.features ts e.1.left) (sym split) (value kind found.derives);
-        met = found.met;
-        stays = found.stays;
-      }))
+      if_next kinds.Equals s _ (λ not. holds (plainly here (nothing not)))
+      (λ equals rest split kind. read_then (e.expression_sound conditions (at s rest) here) (λ x found.
+      holds (begins split (again found (value kind found.derives)))))
 
   key_derives : {v : Option (Expr Tok Tok)} {fs : List (Noted Tok)} {key : SignificantToken} {ts rest : Tokens} → IsKey (key ∷ ts) → IsKind kinds.Identifier key
       → IsValue v fs ts rest → ArgumentOf true (reader.argument_of_key key.tok v) fs (key ∷ ts) rest
@@ -180,38 +157,25 @@ module _ (conditions : Conditions) where
   key_follows name ks key (Some e) new = new
 
   keyed_sound : (name : SignificantToken) (before : List (Argument Tok Tok)) (s : State) → Here conditions 0 s → IsKey s.left
-      → IfOk (reader.keyed name before s) (IsArgument true name.tok before s)
+      → Holds (IsArgument true name.tok before s) (reader.keyed name before s)
   unfolding r.keyed
   keyed_sound name before s here is_key =
-      let P : Read (Argument Tok Tok) → Type 0 = λ o. IfOk o (IsArgument true name.tok before s) in
-      after_expect kinds.Identifier s _ P (λ e. tt) (λ key t1 split kind.
-      after_bind (reader.key_value (at s t1)) _ P (λ e. tt) (λ v is.
-      let found = known v (ValueAt (at s t1)) is (key_value_sound (at s t1) here) in
-      let here_is = key_derives (subst IsKey split is_key) kind found.derives in
-      after_test (reader.is_repeated v.1.run before key) _ _ P (λ _. tt) (λ new. record {
-        derived = record {
-          features = found.features;
-          derives = subst (λ (ts : Tokens). ArgumentOf true (reader.argument_of_key key.tok v.0) found.features ts v.1.left) (sym split) here_is;
-          met = record { noted_is = found.met.noted_is; cooks = subst (AllCook conditions.expander) (sym (key_literals key.tok v.0)) found.met.cooks };
-          stays = found.stays;
-        };
+      if_expected kinds.Identifier s _ (λ key t1 split kind.
+      read_then (key_value_sound (at s t1) here) (λ v found.
+      after_test (reader.is_repeated v.1.run before key) _ _ (Holds (IsArgument true name.tok before s)) (λ _. failed) (λ new. holds (record {
+        derived = subst (λ ls. Derived conditions (ArgumentOf true (reader.argument_of_key key.tok v.0)) ls 0 s v.1) (sym (key_literals key.tok v.0))
+            (begins split (again found (key_derives (subst IsKey split is_key) kind found.derives)));
         follows = key_follows name.tok (by_key before) key.tok v.0 new;
-      })))
+      }))))
 
   argument_sound : (name : SignificantToken) (keys : Bool) (before : List (Argument Tok Tok)) (s : State) → Here conditions 0 s
-      → IfOk (reader.argument name keys before s) (IsArgument keys name.tok before s)
+      → Holds (IsArgument keys name.tok before s) (reader.argument name keys before s)
   unfolding r.argument
   argument_sound name true before s here =
-      let P : Read (Argument Tok Tok) → Type 0 = λ o. IfOk o (IsArgument true name.tok before s) in
-      after_test (reader.begins_key s) _ _ P
+      after_test (reader.begins_key s) _ _ (Holds (IsArgument true name.tok before s))
       (λ e. keyed_sound name before s here (key_is_next s e))
       (λ e. positional_sound true name.tok before s here (λ _ k. true_not_false _ (key_taken s k) e))
   argument_sound name false before s here = positional_sound false name.tok before s here (λ e. cc)
-
-  argument_at : (name : SignificantToken) (keys : Bool) (before : List (Argument Tok Tok)) (s : State) (x : ReadArgument)
-      → reader.argument name keys before s ≡ Ok x → Here conditions 0 s
-      → IsArgument keys name.tok before s x
-  argument_at name keys before s x is here = known x (IsArgument keys name.tok before s) is (argument_sound name keys before s here)
 
   -- ---- arguments up to the closing parenthesis
 
@@ -230,75 +194,46 @@ module _ (conditions : Conditions) where
       (keys_append before (a ∷ [])) h)
 
   last_argument : (keys : Bool) (name : Tok) (before : List (Argument Tok Tok)) (s : State) (x : ReadArgument) → IsArgument keys name before s x
-      → IfOk (reader.arguments_end (before ++ x.0 ∷ []) x.1) (AreArguments keys name (before, s))
+      → Holds (AreArguments keys name (before, s)) (reader.arguments_end (before ++ x.0 ∷ []) x.1)
   unfolding r.arguments_end
   last_argument keys name before s x one =
-      let P : reader.ReadArguments → Type 0 = λ o. IfOk o (AreArguments keys name (before, s)) in
-      let here : Derived conditions (ArgumentOf keys x.0) (argument_literals x.0) 0 s x.1 = one.derived in
-      after_expect kinds.ParenR x.1 _ P (λ e. tt) (λ closer rest split kind. record {
+      if_expected kinds.ParenR x.1 _ (λ closer rest split kind. holds (record {
         others = x.0 ∷ [];
         all_are = refl;
-        derived = record {
-          features = here.features;
-          derives = g.last (subst (ArgumentOf keys x.0 here.features s.left) split here.derives) kind;
-          met = all_met
-              here.met;
-          stays = here.stays;
-        };
+        derived = alone one.derived (g.last (ends split one.derived).derives kind);
         follow = follow_last name before x.0 [] one.follows (none_follow (token_view conditions) name (by_key (before ++ x.0 ∷ [])));
-      })
+      }))
 
   more_arguments : (keys : Bool) (name : Tok) (before : List (Argument Tok Tok)) (s : State) (x : ReadArgument) (comma : SignificantToken) (rest : Tokens)
       → x.1.left ≡ comma ∷ rest → IsKind kinds.Comma comma → IsArgument keys name before s x
       → (y : reader.ArgumentPlace) → AreArguments keys name (before ++ x.0 ∷ [], at x.1 rest) y → AreArguments keys name (before, s) y
   more_arguments keys name before s x comma rest split kind one y h =
-      let here : Derived conditions (ArgumentOf keys x.0) (argument_literals x.0) 0 s x.1 = one.derived in
-      let later : Derived conditions (Arguments keys h.others) (flat_map argument_literals h.others) 0 (at x.1 rest) y.1 = h.derived in
+      let here = ends split one.derived in
       record {
         others = x.0 ∷ h.others;
         all_are = h.all_are ∙ append_assoc before (x.0 ∷ []) h.others;
-        derived = record {
-          features = here.features ++ later.features;
-          derives = g.more (subst (ArgumentOf keys x.0 here.features s.left) split here.derives) kind later.derives;
-          met = both_met here.met later.met;
-          stays = later.stays;
-        };
+        derived = followed here h.derived (g.more here.derives kind h.derived.derives);
         follow = follow_last name before x.0 h.others one.follows h.follow;
       }
 
   -- all arguments that are left are read
   abbrev AllArguments : Bool → Tok → reader.ArgumentPlace → reader.ReadArguments → Type 0
-  AllArguments keys name x found = Here conditions 0 x.1 → IfOk found (AreArguments keys name x)
-
-  arguments_keep : (name : SignificantToken) (keys : Bool) (f : reader.ArgumentPlace → reader.ReadArguments)
-      → ((x : reader.ArgumentPlace) → AllArguments keys name.tok x (f x)) → (x : reader.ArgumentPlace)
-      → AllArguments keys name.tok x (reader.arguments_rule name keys f x)
-  arguments_keep name keys f h x here =
-      let P : reader.ReadArguments → Type 0 = λ o. IfOk o (AreArguments keys name.tok x) in
-      after_choose kinds.ParenR x.1 _ _ P
-      (λ not. after_bind (reader.argument name keys x.0 x.1) _ P (λ e. tt) (λ a is.
-      let one = argument_at name keys x.0 x.1 a is here in
-      after_choose kinds.Comma a.1 _ _ P (λ _. last_argument keys name.tok x.0 x.1 a one) (λ comma rest split kind.
-      weaken (f (x.0 ++ a.0 ∷ [], at a.1 rest)) (AreArguments keys name.tok (x.0 ++ a.0 ∷ [], at a.1 rest)) (AreArguments keys name.tok x)
-      (more_arguments keys name.tok x.0 x.1 a comma rest split kind one)
-      (h (x.0 ++ a.0 ∷ [], at a.1 rest) one.derived.stays))))
-      (λ closer rest split kind. record {
-        others = [];
-        all_are = sym (append-nil x.0);
-        derived = record {
-          features = [];
-          derives = subst (λ (ts : Tokens). Arguments keys [] [] ts rest) (sym split) (g.none kind);
-          met = nothing_met;
-          stays = here;
-        };
-        follow = none_follow (token_view conditions) name.tok (by_key x.0);
-      })
+  AllArguments keys name x found = Here conditions 0 x.1 → Holds (AreArguments keys name x) found
 
   arguments_from_sound : (name : SignificantToken) (keys : Bool) (x : reader.ArgumentPlace) → AllArguments keys name.tok x (reader.arguments_from name keys x)
   unfolding r.arguments_from
   arguments_from_sound name keys =
-      recursive_keeps (λ (x : reader.ArgumentPlace). length x.1.left) (reader.no_arguments) (reader.arguments_rule name keys)
-      (AllArguments keys name.tok) (λ x here. tt) (arguments_keep name keys)
+      loop_has (λ x. x.1) (reader.arguments_rule name keys) (AllArguments keys name.tok) (λ x here. failed) (λ f h x here.
+      if_next kinds.ParenR x.1 _
+      (λ not. read_then (argument_sound name keys x.0 x.1 here) (λ a one.
+      if_next kinds.Comma a.1 _ (λ _. last_argument keys name.tok x.0 x.1 a one) (λ comma rest split kind.
+      weaken (h (x.0 ++ a.0 ∷ [], at a.1 rest) one.derived.stays) (more_arguments keys name.tok x.0 x.1 a comma rest split kind one))))
+      (λ closer rest split kind. holds (record {
+        others = [];
+        all_are = sym (append-nil x.0);
+        derived = begins split (plainly here (g.none kind));
+        follow = none_follow (token_view conditions) name.tok (by_key x.0);
+      })))
 
   -- ---- what follows the name of an attribute
 
@@ -320,48 +255,26 @@ module _ (conditions : Conditions) where
   long_sound : (name opener : SignificantToken) (s : State) (rest : Tokens) → s.left ≡ opener ∷ rest → IsKind kinds.Identifier name → IsKind kinds.ParenL opener
       → (x : reader.ArgumentPlace) → AreArguments (name_takes_keys name.tok.lexeme) name.tok ([], at s rest) x → AreAllArguments name s x
   long_sound name opener s rest split kind kind2 x h =
-      let found : Derived conditions (Arguments (name_takes_keys name.tok.lexeme) h.others) (flat_map argument_literals h.others) 0 (at s rest) x.1 = h.derived
-      in
-      let same : h.others ≡ x.0 = sym h.all_are in
+      let V : List (Argument Tok Tok) → Type 0 = λ all. Derived conditions (Named name all) (flat_map argument_literals all) 0 s x.1 in
       record {
-        derived = record {
-          features = found.features;
-          derives = subst (λ (all : List (Argument Tok Tok)). Named name all found.features s.left x.1.left) same
-              (subst (λ (ts : Tokens). Named name h.others found.features ts x.1.left) (sym split) (g.long kind kind2 found.derives));
-          met = subst (λ (all : List (Argument Tok Tok)). Met conditions.expander found.features (flat_map argument_literals all) s.noted x.1.noted) same
-              found.met;
-          stays = found.stays;
-        };
-        follow = subst (Follow (token_view conditions) name.tok []) same h.follow;
+        derived = subst V (sym h.all_are) (begins split (again h.derived (g.long kind kind2 h.derived.derives)));
+        follow = subst (Follow (token_view conditions) name.tok []) (sym h.all_are) h.follow;
       }
 
   arguments_sound : (name : SignificantToken) (s : State) → Here conditions 0 s → IsKind kinds.Identifier name
-      → IfOk (reader.arguments name (name_takes_keys name.tok.lexeme) s) (AreAllArguments name s)
+      → Holds (AreAllArguments name s) (reader.arguments name (name_takes_keys name.tok.lexeme) s)
   unfolding r.arguments
   arguments_sound name s here kind =
-      let P : reader.ReadArguments → Type 0 = λ o. IfOk o (AreAllArguments name s) in
       let keys = name_takes_keys name.tok.lexeme in
-      after_choose kinds.Colon s _ _ P
-      (λ no_colon. after_choose kinds.ParenL s _ _ P
-      (λ no_paren. record {
-        derived = record { features = []; derives = g.plain kind no_colon no_paren; met = nothing_met; stays = here };
-        follow = none_follow
-            (token_view conditions) name.tok [];
-      })
-      (λ opener rest split kind2. weaken (reader.arguments_from name keys ([], at s rest)) (AreArguments keys name.tok ([], at s rest)) (AreAllArguments name s)
-      (long_sound name opener s rest split kind kind2) (arguments_from_sound name keys ([], at s rest) here)))
-      (λ colon rest split kind2. after_bind (reader.placed (at s rest)) _ P (λ e. tt) (λ a is.
-      let found = known a (PlacedAt (at s rest)) is (placed_sound (at s rest) here) in
-      record {
-        derived = record {
-          features = found.features;
-          derives = subst (λ (ts : Tokens). Named name (a.0 ∷ []) found.features ts a.1.left) (sym split) (short_derives kind kind2 found.derives);
-          met = all_met found.met;
-          stays = found.stays;
-        };
+      if_next kinds.Colon s _
+      (λ no_colon. if_next kinds.ParenL s _
+      (λ no_paren. holds (record { derived = plainly here (g.plain kind no_colon no_paren); follow = none_follow (token_view conditions) name.tok [] }))
+      (λ opener rest split kind2. weaken (arguments_from_sound name keys ([], at s rest) here) (long_sound name opener s rest split kind kind2)))
+      (λ colon rest split kind2. read_then (placed_sound (at s rest) here) (λ a found. holds (record {
+        derived = begins split (alone found (short_derives kind kind2 found.derives));
         follow = one_follows (token_view conditions) name.tok [] a.0 [] (placed_follows name.tok [] refl found.derives)
             (none_follow (token_view conditions) name.tok (by_key (a.0 ∷ [])));
-      }))
+      })))
 
 module _ (conditions : Conditions) where
   -- ---- an attribute after others
@@ -374,20 +287,19 @@ module _ (conditions : Conditions) where
     distinct : duplicate_broken (token_view conditions) (entries_in before) x.0.entry ≡ []
 
   -- a name of a kind, or an error
-  after_kind : {X : Type 0} (name : SignificantToken) (s : State) (f : AttributeKind × State → Read X) (P : Read X → Type 0) → ((e : ReadError) → P (Err e))
-      → ((kind : AttributeKind) → kind_named name.tok.lexeme ≡ Some kind → P (f (kind, s))) → P (reader.kind_at name s >>= f)
-  after_kind name s f P fails goes =
-      subst (λ o. P (o >>= f)) (sym (reader.kind_at_is name s)) (go (kind_named name.tok.lexeme) goes)
+  after_kind : {X : Type 0} {P : X × State → Type 0} (name : SignificantToken) (s : State) (f : AttributeKind × State → Read X)
+      → ((kind : AttributeKind) → kind_named name.tok.lexeme ≡ Some kind → Holds P (f (kind, s))) → Holds P (reader.kind_at name s >>= f)
+  after_kind {P = P} name s f goes =
+      subst (λ o. Holds P (o >>= f)) (sym (reader.kind_at_is name s)) (go (kind_named name.tok.lexeme) goes)
     where
-      go : (o : Option AttributeKind) → ((kind : AttributeKind) → o ≡ Some kind → P (f (kind, s))) → P (reader.kind_or_refused name s o >>= f)
-      go None h = fails _
+      go : (o : Option AttributeKind) → ((kind : AttributeKind) → o ≡ Some kind → Holds P (f (kind, s))) → Holds P (reader.kind_or_refused name s o >>= f)
+      go None h = failed
       go (Some kind) h = h kind refl
 
-  after_made : {X : Type 0} (found : Made Tok (Entry Tok Tok)) (s : State) (f : Entry Tok Tok × State → Read X) (P : Read X → Type 0)
-      → ((e : ReadError) → P (Err e))
-      → ((e : Entry Tok Tok) → found ≡ Ok e → P (f (e, s))) → P (read_made found s >>= f)
-  after_made (Ok e) s f P fails goes = goes e refl
-  after_made (Err rule) s f P fails goes = fails _
+  after_made : {X : Type 0} {P : X × State → Type 0} (found : Made Tok (Entry Tok Tok)) (s : State) (f : Entry Tok Tok × State → Read X)
+      → ((e : Entry Tok Tok) → found ≡ Ok e → Holds P (f (e, s))) → Holds P (read_made found s >>= f)
+  after_made (Ok e) s f goes = goes e refl
+  after_made (Err rule) s f goes = failed
 
   named_means : (w : WrittenAttribute Tok Tok) (kind : AttributeKind) (e : Entry Tok Tok) → kind_named w.name.lexeme ≡ Some kind → e.name ≡ w.name → e.comment ≡ w.comment
       → attribute_of (token_view conditions) kind (by_position w.arguments) (by_key w.arguments) ≡ Some e.attribute
@@ -403,47 +315,34 @@ module _ (conditions : Conditions) where
       ap (named_broken (token_view conditions) w) is
       ∙ rw (follow.in_order, follow.distinct) unbroken
 
-  made_sound : (before : List ReadAttribute) (name : SignificantToken) (kind : AttributeKind) (s t : State) (x : reader.ArgumentPlace) → s.left ≡ name ∷ t.left
-      → s.noted ≡ t.noted
-      → kind_named name.tok.lexeme ≡ Some kind → AreAllArguments conditions name t x
-      → IfOk (reader.made before name kind x.0 x.1) (IsAttribute before s)
+  made_sound : (before : List ReadAttribute) (name : SignificantToken) (kind : AttributeKind) (s : State) (ts : Tokens) (x : reader.ArgumentPlace) → s.left ≡ name ∷ ts
+      → kind_named name.tok.lexeme ≡ Some kind → AreAllArguments conditions name (at s ts) x
+      → Holds (IsAttribute before s) (reader.made before name kind x.0 x.1)
   unfolding r.made
-  made_sound before name kind s t x split same is h =
-      let found : Derived conditions (Named conditions name x.0) (flat_map argument_literals x.0) 0 t x.1 = h.derived in
+  made_sound before name kind s ts x split is h =
       let w : WrittenAttribute Tok Tok = written_at conditions name x.0 in
-      let made : Made Tok (Entry Tok Tok) = new_entry (token_view x.1.run) (entries_in before) name.tok kind (by_position x.0) (by_key x.0) in
-      after_made made x.1 _ (λ o. IfOk o (IsAttribute before s)) (λ e. tt) (λ e made_is.
+      let made : Conditions → Made Tok (Entry Tok Tok) = λ c. new_entry (token_view c) (entries_in before) name.tok kind (by_position x.0) (by_key x.0) in
+      after_made (made x.1.run) x.1 _ (λ e made_is.
       let m = entry_made (token_view conditions) (entries_in before) name.tok kind (by_position x.0) (by_key x.0) e
-      (subst (λ c. new_entry (token_view c) (entries_in before) name.tok kind (by_position x.0) (by_key x.0) ≡ Ok e) found.stays.1 made_is) in
-      record {
-        derived = record {
-          features = found.features;
-          derives = subst (λ (ts : Tokens). AttributeOf conditions w found.features ts x.1.left) (sym split) found.derives;
-          met = subst (λ ns. Met conditions.expander found.features (flat_map argument_literals x.0) ns x.1.noted) (sym same) found.met;
-          stays = found.stays;
-        };
+      (subst (λ c. made c ≡ Ok e) h.derived.stays.1 made_is) in
+      holds (record {
+        derived = begins split (again h.derived h.derived.derives);
         means = named_means w kind e is m.name_is m.comment_is m.meant;
         unbroken = named_unbroken w kind is h.follow m.unbroken;
         distinct = m.distinct;
-      })
+      }))
 
   keys_taken : (name : List ℕ) (kind : AttributeKind) → kind_named name ≡ Some kind → name_takes_keys name ≡ takes_keys kind
   keys_taken name kind is = ap named_takes_keys is
 
-  attribute_sound : (before : List ReadAttribute) (s : State) → Here conditions 0 s → IfOk (reader.attribute before s) (IsAttribute before s)
+  attribute_sound : (before : List ReadAttribute) (s : State) → Here conditions 0 s → Holds (IsAttribute before s) (reader.attribute before s)
   unfolding r.attribute
   attribute_sound before s here =
-      let P : Read ReadAttribute → Type 0 = λ o. IfOk o (IsAttribute before s) in
-      after_expect kinds.Identifier s _ P (λ e. tt) (λ name rest split kind.
-      after_kind name (at s rest) _ P (λ e. tt) (λ k is.
-      after_bind (reader.arguments name (takes_keys k) (at s rest)) _ P (λ e. tt) (λ all is2.
-      let found = subst (λ b. IfOk (reader.arguments name b (at s rest)) (AreAllArguments conditions name (at s rest))) (keys_taken name.tok.lexeme k is)
-      (arguments_sound conditions name (at s rest) here kind) in
-      made_sound before name k s (at s rest) all split refl is (known all (AreAllArguments conditions name (at s rest)) is2 found))))
-
-  attribute_at : (before : List ReadAttribute) (s : State) (x : ReadAttribute × State) → reader.attribute before s ≡ Ok x → Here conditions 0 s
-      → IsAttribute before s x
-  attribute_at before s x is here = known x (IsAttribute before s) is (attribute_sound before s here)
+      if_expected kinds.Identifier s _ (λ name rest split kind.
+      after_kind name (at s rest) _ (λ k is.
+      read_then (subst (λ b. Holds (AreAllArguments conditions name (at s rest)) (reader.arguments name b (at s rest))) (keys_taken name.tok.lexeme k is)
+      (arguments_sound conditions name (at s rest) here kind)) (λ all found.
+      made_sound before name k s rest all split is found)))
 
   -- ---- attributes up to the closing bracket, and lines of them
 
@@ -467,87 +366,51 @@ module _ (conditions : Conditions) where
       (map-append entry_read before (x ∷ [])) h)
 
   last_attribute : (before : List ReadAttribute) (s : State) (x : ReadAttribute × State) → IsAttribute before s x
-      → IfOk (reader.bracket_end (before ++ x.0 ∷ []) x.1) (AreAttributes (Bracketed conditions) (before, s))
+      → Holds (AreAttributes (Bracketed conditions) (before, s)) (reader.bracket_end (before ++ x.0 ∷ []) x.1)
   unfolding r.bracket_end
   last_attribute before s x one =
-      let P : reader.ReadAttributes → Type 0 = λ o. IfOk o (AreAttributes (Bracketed conditions) (before, s)) in
-      let here : Derived conditions (AttributeOf conditions x.0.written) (flat_map argument_literals x.0.written.arguments) 0 s x.1 = one.derived in
-      after_expect kinds.BracketR x.1 _ P (λ e. tt) (λ closer rest split kind. record {
+      if_expected kinds.BracketR x.1 _ (λ closer rest split kind. holds (record {
         others = x.0 ∷ [];
         all_are = refl;
-        derived = record {
-          features = here.features;
-          derives = g.last (subst (AttributeOf conditions x.0.written here.features s.left) split here.derives) kind;
-          met = all_met here.met;
-          stays = here.stays;
-        };
+        derived = alone one.derived (g.last (ends split one.derived).derives kind);
         made = made_after before x.0 [] one.means one.unbroken one.distinct none;
-      })
+      }))
 
   more_attributes : (before : List ReadAttribute) (s : State) (x : ReadAttribute × State) (comma : SignificantToken) (rest : Tokens) → x.1.left ≡ comma ∷ rest
       → IsKind kinds.Comma comma → IsAttribute before s x
       → (y : reader.AttributePlace) → AreAttributes (Bracketed conditions) (before ++ x.0 ∷ [], at x.1 rest) y
       → AreAttributes (Bracketed conditions) (before, s) y
   more_attributes before s x comma rest split kind one y h =
-      let here : Derived conditions (AttributeOf conditions x.0.written) (flat_map argument_literals x.0.written.arguments) 0 s x.1 = one.derived in
-      let later : Derived conditions (Bracketed conditions (written_in h.others)) (written_literals (written_in h.others)) 0 (at x.1 rest) y.1 = h.derived in
+      let here = ends split one.derived in
       record {
         others = x.0 ∷ h.others;
         all_are = h.all_are ∙ append_assoc before (x.0 ∷ []) h.others;
-        derived = record {
-          features = here.features ++ later.features;
-          derives = g.more (subst (AttributeOf conditions x.0.written here.features s.left) split here.derives) kind later.derives;
-          met = both_met here.met later.met;
-          stays = later.stays;
-        };
+        derived = followed here h.derived (g.more here.derives kind h.derived.derives);
         made = made_after before x.0 h.others one.means one.unbroken one.distinct h.made;
       }
 
   -- all attributes that are left are read
   abbrev AllAttributes : Rule → reader.AttributePlace → reader.ReadAttributes → Type 0
-  AllAttributes rule x found = Here conditions 0 x.1 → IfOk found (AreAttributes rule x)
-
-  bracket_keeps : (f : reader.AttributePlace → reader.ReadAttributes) → ((x : reader.AttributePlace) → AllAttributes (Bracketed conditions) x (f x))
-      → (x : reader.AttributePlace)
-      → AllAttributes (Bracketed conditions) x (reader.bracketed_rule f x)
-  bracket_keeps f h x here =
-      let P : reader.ReadAttributes → Type 0 = λ o. IfOk o (AreAttributes (Bracketed conditions) x) in
-      after_bind (reader.attribute x.0 x.1) _ P (λ e. tt) (λ w is.
-      let one = attribute_at x.0 x.1 w is here in
-      after_choose kinds.Comma w.1 _ _ P (λ _. last_attribute x.0 x.1 w one) (λ comma rest split kind.
-      weaken (f (x.0 ++ w.0 ∷ [], at w.1 rest)) (AreAttributes (Bracketed conditions) (x.0 ++ w.0 ∷ [], at w.1 rest)) (AreAttributes (Bracketed conditions) x)
-      (more_attributes x.0 x.1 w comma rest split kind one)
-      (h (x.0 ++ w.0 ∷ [], at w.1 rest) one.derived.stays)))
+  AllAttributes rule x found = Here conditions 0 x.1 → Holds (AreAttributes rule x) found
 
   bracketed_sound : (x : reader.AttributePlace) → AllAttributes (Bracketed conditions) x (reader.bracketed x)
   unfolding r.bracketed
   bracketed_sound =
-      recursive_keeps (λ (x : reader.AttributePlace). length x.1.left) (reader.no_attributes) (reader.bracketed_rule)
-      (AllAttributes (Bracketed conditions)) (λ x here. tt) bracket_keeps
+      loop_has (λ x. x.1) (reader.bracketed_rule) (AllAttributes (Bracketed conditions)) (λ x here. failed) (λ f h x here.
+      read_then (attribute_sound x.0 x.1 here) (λ w one.
+      if_next kinds.Comma w.1 _ (λ _. last_attribute x.0 x.1 w one) (λ comma rest split kind.
+      weaken (h (x.0 ++ w.0 ∷ [], at w.1 rest) one.derived.stays) (more_attributes x.0 x.1 w comma rest split kind one))))
 
   -- what ends a line of attributes
-  record Ended (s : State) (x : Option SignificantToken × State) : Type 0 where
-    ends : AttributesEnd conditions (option_map (comment_in token_leaves) x.0) s.left x.1.left
-    noted_is : x.1.noted ≡ s.noted
-    stays : Here conditions 0 x.1
+  abbrev Ended : State → Option SignificantToken × State → Type 0
+  Ended s x = Passed conditions (AttributesEnd conditions (option_map (comment_in token_leaves) x.0)) s x.1
 
-  end_sound : (s : State) → Here conditions 0 s → IfOk (reader.attributes_end s) (Ended s)
+  end_sound : (s : State) → Here conditions 0 s → Holds (Ended s) (reader.attributes_end s)
   unfolding r.attributes_end r.line_end_after
   end_sound s here =
-      let P : Read (Option SignificantToken) → Type 0 = λ o. IfOk o (Ended s) in
-      after_choose kinds.Comment s _ _ P
-      (λ _. after_expect kinds.Eol s _ P (λ e. tt) (λ newline rest split kind.
-      record { ends = subst (λ ts. AttributesEnd conditions None ts rest) (sym split) (g.bare kind); noted_is = refl; stays = here }))
-      (λ c t1 split kind. after_expect kinds.Eol (at s t1) _ P (λ e. tt) (λ newline rest split2 kind2.
-      let R : Tokens → Type 0 = λ ts. AttributesEnd conditions (Some (trim_end c.tok.lexeme)) ts rest in
-      record {
-        ends = subst R (sym split) (subst (λ (ts : Tokens). R (c ∷ ts)) (sym split2) (g.commented kind kind2));
-        noted_is = refl;
-        stays = here;
-      }))
-
-  ended_at : (s : State) (x : Option SignificantToken × State) → reader.attributes_end s ≡ Ok x → Here conditions 0 s → Ended s x
-  ended_at s x is here = known x (Ended s) is (end_sound s here)
+      if_next kinds.Comment s _ (λ _. if_expected kinds.Eol s _ (λ newline rest split kind. holds (passed conditions here split (g.bare kind))))
+      (λ c t1 split kind. if_expected kinds.Eol (at s t1) _ (λ newline rest split2 kind2.
+      holds (passed conditions here (split ∙ ap (λ (ts : Tokens). c ∷ ts) split2) (g.commented kind kind2))))
 
   some_written : (xs : List ReadAttribute) → NotEmpty (written_in xs) → NotEmpty xs
   some_written [] some = some
@@ -562,72 +425,41 @@ module _ (conditions : Conditions) where
       → AreAttributes (Bracketed conditions) (x.0, at x.1 t1) ws → Ended ws.1 end → (y : reader.AttributePlace)
       → AreAttributes (AttributeLines conditions) (reader.commented_by end.0 ws.0, end.1) y → AreAttributes (AttributeLines conditions) x y
   more_lines x opener t1 ws end split kind h ended y k =
-      let first : Derived conditions (Bracketed conditions (written_in h.others)) (written_literals (written_in h.others)) 0 (at x.1 t1) ws.1 = h.derived in
-      let later : Derived conditions (AttributeLines conditions (written_in k.others)) (written_literals (written_in k.others)) 0 end.1 y.1 = k.derived in
       let comment : Option (List ℕ) = option_map (comment_in token_leaves) end.0 in
       let line : List ReadAttribute = commented commented_both comment h.others in
-      let all : List ReadAttribute = line ++ k.others in
-      let fs : List (Noted Tok) = first.features ++ later.features in
-      let some : NotEmpty h.others = some_written h.others (some_bracketed itself itself (BelowLimit conditions.limit) first.derives) in
+      let written : List (WrittenAttribute Tok Tok) = commented_line comment (written_in h.others) in
+      let some : NotEmpty h.others = some_written h.others (some_bracketed itself itself (BelowLimit conditions.limit) h.derived.derives) in
       let line_is : commented commented_both comment ws.0 ≡ x.0 ++ line =
       ap (commented commented_both comment) h.all_are ∙ commented_after commented_both comment x.0 h.others some in
-      let written_is : commented_line comment (written_in h.others) ≡ written_in line =
-      sym (commented_map (λ (x : ReadAttribute). x.written) commented_both commented_attribute (λ c x. refl) comment h.others) in
+      let written_is : written ≡ written_in line = sym (commented_map (λ (x : ReadAttribute). x.written) commented_both commented_attribute (λ c x. refl) comment h.others) in
       let entries_are : commented commented_entry comment (entries_in h.others) ≡ entries_in line =
       sym (commented_map entry_read commented_both commented_entry (λ c x. refl) comment h.others) in
-      let same : commented_line comment (written_in h.others) ++ written_in k.others ≡ written_in all =
-      ap (λ l. l ++ written_in k.others) written_is ∙ sym (written_append line k.others) in
-      let lines : AttributeLines conditions (commented_line comment (written_in h.others) ++ written_in k.others) fs (opener ∷ t1) y.1.left =
-      g.line kind first.derives ended.ends later.derives in
       let line_made : AllMade (token_view conditions) (entries_in x.0) (written_in line) (entries_in line) =
       subst₂ (AllMade (token_view conditions) (entries_in x.0)) written_is entries_are (made_commented (token_view conditions) comment h.made) in
-      let met : Met conditions.expander fs (written_literals (commented_line comment (written_in h.others)) ++ written_literals (written_in k.others)) x.1.noted
-      y.1.noted =
-      both_met (subst (λ ls. Met conditions.expander first.features ls x.1.noted ws.1.noted) (sym (commented_literals comment (written_in h.others))) first.met)
-      (subst (λ ns. Met conditions.expander later.features (written_literals (written_in k.others)) ns y.1.noted) ended.noted_is later.met)
-      in
+      let first = subst (λ ls. Derived conditions (Bracketed conditions (written_in h.others)) ls 0 (at x.1 t1) ws.1) (sym (commented_literals comment (written_in h.others))) h.derived in
+      let after : Derived conditions (λ fs ts us. AttributesEnd conditions comment ts end.1.left × AttributeLines conditions (written_in k.others) fs end.1.left us)
+      (written_literals (written_in k.others)) 0 ws.1 y.1 = followed (quiet conditions ended) k.derived (ended.derives, k.derived.derives) in
+      let lines = begins split (followed first after (g.line kind first.derives after.derives.0 after.derives.1)) in
+      let V : List (WrittenAttribute Tok Tok) → Type 0 = λ ws. Derived conditions (AttributeLines conditions ws) (written_literals ws) 0 x.1 y.1 in
       record {
-        others = all;
+        others = line ++ k.others;
         all_are = k.all_are ∙ ap (λ (l : List ReadAttribute). l ++ k.others) line_is ∙ append_assoc x.0 line k.others;
-        derived = record {
-          features = fs;
-          derives = subst (λ (ts : Tokens). AttributeLines conditions (written_in all) fs ts y.1.left) (sym split)
-              (subst (λ vs. AttributeLines conditions vs fs (opener ∷ t1) y.1.left) same lines);
-          met = subst (λ ls. Met conditions.expander fs ls x.1.noted y.1.noted) (sym (flat_map-append _ (commented_line comment (written_in h.others)) (written_in k.others)) ∙ ap
-              written_literals same) met;
-          stays = later.stays;
-        };
+        derived = subst V (ap (λ l. l ++ written_in k.others) written_is ∙ sym (written_append line k.others))
+            (subst (λ ls. Derived conditions (AttributeLines conditions (written ++ written_in k.others)) ls 0 x.1 y.1) (sym (flat_map-append _ written (written_in k.others))) lines);
         made = subst₂ (AllMade (token_view conditions) (entries_in x.0)) (sym (written_append line k.others)) (sym (map-append entry_read line k.others))
             (made_append (token_view conditions) line_made (subst (λ es. AllMade (token_view conditions) es (written_in k.others) (entries_in k.others))
             (ap entries_in line_is ∙ map-append entry_read x.0 line) k.made));
       }
 
-  lines_keep : (f : reader.AttributePlace → reader.ReadAttributes) → ((x : reader.AttributePlace) → AllAttributes (AttributeLines conditions) x (f x))
-      → (x : reader.AttributePlace)
-      → AllAttributes (AttributeLines conditions) x (reader.attribute_lines_rule f x)
-  lines_keep f h x here =
-      let P : reader.ReadAttributes → Type 0 = λ o. IfOk o (AreAttributes (AttributeLines conditions) x) in
-      after_choose kinds.BracketL x.1 _ _ P
-      (λ not. record {
-        others = [];
-        all_are = sym (append-nil x.0);
-        derived = record { features = []; derives = g.none not; met = nothing_met; stays = here };
-        made = none;
-      })
-      (λ opener t1 split kind. after_bind (reader.bracketed (x.0, at x.1 t1)) _ P (λ e. tt) (λ ws is.
-      let found = known ws (AreAttributes (Bracketed conditions) (x.0, at x.1 t1)) is (bracketed_sound (x.0, at x.1 t1) here) in
-      after_bind (reader.attributes_end ws.1) _ P (λ e. tt) (λ end is2.
-      let ended = ended_at ws.1 end is2 found.derived.stays in
-      let next : reader.AttributePlace = (reader.commented_by end.0 ws.0, end.1) in
-      weaken (f next) (AreAttributes (AttributeLines conditions) next) (AreAttributes (AttributeLines conditions) x)
-      (more_lines x opener t1 ws end split kind found ended)
-      (h next ended.stays))))
-
   lines_sound : (x : reader.AttributePlace) → AllAttributes (AttributeLines conditions) x (reader.attribute_lines_from x)
   unfolding r.attribute_lines_from
   lines_sound =
-      recursive_keeps (λ (x : reader.AttributePlace). length x.1.left) (reader.no_attributes) (reader.attribute_lines_rule)
-      (AllAttributes (AttributeLines conditions)) (λ x here. tt) lines_keep
+      loop_has (λ x. x.1) (reader.attribute_lines_rule) (AllAttributes (AttributeLines conditions)) (λ x here. failed) (λ f h x here.
+      if_next kinds.BracketL x.1 _
+      (λ not. holds (record { others = []; all_are = sym (append-nil x.0); derived = plainly here (g.none not); made = none }))
+      (λ opener t1 split kind. read_then (bracketed_sound (x.0, at x.1 t1) here) (λ ws found.
+      read_then (end_sound ws.1 found.derived.stays) (λ end ended.
+      weaken (h (reader.commented_by end.0 ws.0, end.1) ended.stays) (more_lines x opener t1 ws end split kind found ended)))))
 
   -- ---- the attributes before a construct
 
@@ -647,10 +479,6 @@ module _ (conditions : Conditions) where
             h.made;
       })
 
-  pub attributes_sound : (s : State) → Here conditions 0 s → IfOk (read_attributes s) (IsRead s)
+  pub attributes_sound : (s : State) → Here conditions 0 s → Holds (IsRead s) (read_attributes s)
   unfolding r.attribute_lines
-  attributes_sound s here =
-      weaken (reader.attribute_lines_from ([], s)) (AreAttributes (AttributeLines conditions) ([], s)) (IsRead s) (whole s) (lines_sound ([], s) here)
-
-  pub attributes_at : (s : State) (x : List ReadAttribute × State) → read_attributes s ≡ Ok x → Here conditions 0 s → IsRead s x
-  attributes_at s x is here = known x (IsRead s) is (attributes_sound s here)
+  attributes_sound s here = weaken (lines_sound ([], s) here) (whole s)

@@ -12,7 +12,6 @@ use Rattle.justfile_model.specs.Trees.Tree.{Tree, WrittenTree}
 use Rattle.justfile_model.specs.Readers.TreeReader.{tree_of_tokens}
 use Rattle.justfile_model.proofs.Derivations.CookedTexts.{texts_of}
 use Rattle.justfile_model.proofs.Sound.UnbrokenItems.{all_ordered, all_unbroken, meanings}
-use Rattle.justfile_model.proofs.Sound.UnbrokenFile.{obeyed_at}
 use Rattle.justfile_model.proofs.Sound.FileSound.{file_at}
 
 module _ (conditions : Conditions) (tokens : Tokens) where
@@ -22,11 +21,10 @@ module _ (conditions : Conditions) (tokens : Tokens) where
       × (features ≡ all_features (token_view conditions) written fs)
   read_derives written features is =
       let found = file_at conditions tokens (written, features) is in
-      let texts = texts_of conditions.expander (all_literals written) found.cooks in
-      let obeyed = obeyed_at conditions tokens (written, features) is in (
+      let texts = texts_of conditions.expander (all_literals written) found.cooks in (
         found.by_construct,
         found.derives,
-        record { cooked = texts.0; cooks = texts.1; unbroken = all_unbroken conditions.current (token_view conditions) written obeyed },
+        record { cooked = texts.0; cooks = texts.1; unbroken = all_unbroken conditions.current (token_view conditions) written found.obeys },
         found.features_are,
       )
 
@@ -34,7 +32,7 @@ module _ (conditions : Conditions) (tokens : Tokens) where
       → (tree : Tree) × (ordered (token_view conditions) written ≡ Some tree) × FileDerives conditions tokens tree features
   sound written features is =
       let found = read_derives written features is in
-      let obeyed = obeyed_at conditions tokens (written, features) is in
+      let obeyed = (file_at conditions tokens (written, features) is).obeys in
       let meaning = all_ordered conditions.current (token_view conditions) written obeyed in (
         documented sets_doc Nothing (meanings conditions.current (token_view conditions) written obeyed),
         meaning,

@@ -1,7 +1,8 @@
 -- A file that is parsed derives, with the features that the parser notes, and its literals have texts.
-use Rattle.std.proofs.Common.{◌≡◌, ℕ, Bool, true, false, ◌||◌, cond, List, [], ◌∷◌, ◌++◌, length, drop, Option, Some, None, Ok, Err, IfOk, codes, refl, sym, subst, ap, ◌∙◌, append_assoc, append-nil}
+use Rattle.std.proofs.Common.{◌≡◌, ℕ, Bool, true, false, cond, List, [], ◌∷◌, ◌++◌, drop, Option, Some, None, Ok, IfOk, codes, refl, sym, subst, ap, ◌∙◌, append_assoc, append-nil}
 use Rattle.std.specs.Option.{option_map}
 use Rattle.std.specs.Str.{trim_end}
+use Rattle.justfile_vocabulary.specs.declared.token_kind.TokenKind.{TokenKind}
 use Rattle.justfile_vocabulary.specs.declared.token_kind.TokenKind.TheVariants as kinds
 use Rattle.justfile_vocabulary.specs.Keyword.{keyword_text}
 use Rattle.justfile_vocabulary.specs.declared.item_kind.ItemKind.{ItemKind}
@@ -23,8 +24,8 @@ use Rattle.justfile_model.specs.Grammars.Expressions.{Tokens, IsKind, IsWord, No
 use Rattle.justfile_model.specs.Grammars.Grammar as g
 use Rattle.justfile_model.specs.Grammars.Headers as headers
 use Rattle.justfile_model.specs.Grammars.Grammar.{BeforeBody, NotEmpty}
-use Rattle.justfile_model.specs.Readers.HeaderReader.{next_binding_number, expression, header, path}
-use Rattle.justfile_model.specs.Grammars.ItemParts.{EndsLine, FilePath, Names, NoPath, NotNamedString}
+use Rattle.justfile_model.specs.Readers.HeaderReader.{next_binding_number, path}
+use Rattle.justfile_model.specs.Grammars.ItemParts.{EndsLine, FilePath, NoPath, NotNamedString}
 use Rattle.justfile_model.specs.LiteralTexts.Literals.{Literal}
 use Rattle.justfile_model.specs.Meanings.Meaning.{entries_of}
 use Rattle.justfile_model.specs.Grammars.Files.{all_features, all_literals, body_literals, content_literals, entries_features, fragments_literals, to_tokens}
@@ -32,21 +33,21 @@ use Rattle.justfile_model.specs.Readers.ReaderState.{◌>>=◌, Counters, accept
 use Rattle.justfile_model.specs.Meanings.SettingRules.{value_broken}
 use Rattle.justfile_model.specs.Grammars.Settings.{SettingForm, setting_form}
 use Rattle.justfile_model.specs.Readers.Reader as reader
-use Rattle.justfile_model.specs.Readers.PartReader.{after_numbered, file_path, peek_assignment, is_imported, is_module, is_set, line_is, names, optional_path, setting_value}
+use Rattle.justfile_model.specs.Readers.PartReader.{after_numbered, peek_assignment, is_imported, is_module, is_set, line_is, setting_value}
 use Rattle.justfile_model.specs.Readers.Reader.{Start, alias, check_allowed, any_module, any_recipe, argument_rules, assignment, at_end, attributes, body, body_after, body_line, comment_item, construct, constructed, content, content_has_body, next_recipe_number, item_end, entries_read, fragment, function, has_body, import, imported, after_item, items, items_from, items_rule, line, line_at, line_end, line_rest, line_rest_rule, lines, lines_rule, named_module, no_items, no_line_rest, no_lines, any_item, optional_body, recipe, setting, some_lines, stands_alone, unexport, without_keyword}
-use Rattle.justfile_model.specs.Readers.TreeReader.{Read, State, read_attributes, tree_of_tokens, start_state, token_attributes, token_leaves, unnumbered}
-use Rattle.justfile_model.proofs.Sound.AttributeSound.{AttributeLines, IsRead, attributes_at, entries_in, written_in}
-use Rattle.justfile_model.proofs.Sound.HeaderSound.{HeaderOf, IsHeader, NamedHeader, after_obeying, header_of, header_sound, path_at}
-use Rattle.justfile_model.proofs.Sound.UnbrokenItems.{UnbrokenItems, comment_obeyed, construct_obeyed}
-use Rattle.justfile_model.proofs.Sound.PartSound.{IsOptionalPath, IsSet, after_choose_before, after_keyword, file_path_at, line_ends, names_at, no_value, optional_path_sound, value_sound, with_path, without_path}
-use Rattle.justfile_model.proofs.Readers.ReadingSteps.{after_test, known}
-use Rattle.justfile_model.proofs.Lists.Turns.{recursive_keeps}
-use Rattle.justfile_model.proofs.Readers.Steps.{AreNext, are_next, after_accept, after_bind, after_choose, after_expect, weaken}
+use Rattle.justfile_model.specs.Readers.TreeReader.{Read, State, tree_of_tokens, start_state, token_attributes, token_leaves, unnumbered}
+use Rattle.justfile_model.proofs.Sound.AttributeSound.{AttributeLines, IsRead, attributes_sound, entries_in, written_in}
+use Rattle.justfile_model.proofs.Sound.HeaderSound.{HeaderOf, IsHeader, NamedHeader, header_of, header_sound, if_obeyed, path_sound, quiet}
+use Rattle.justfile_model.proofs.Sound.UnbrokenItems.{AllObeyed, UnbrokenItems, both_obeyed, comment_obeyed, construct_obeyed, newline_obeyed}
+use Rattle.justfile_model.proofs.Sound.PartSound.{IsOptionalPath, after_choose_before, after_keyword, file_path_sound, line_ends, names_sound, no_value, optional_path_sound, value_sound, with_path, without_path}
+use Rattle.justfile_model.proofs.Readers.ReadingSteps.{after_test, loop_has}
+use Rattle.justfile_model.proofs.Readers.Steps.{AreNext, Holds, after_accept, after_choose, are_next, failed, held, holds, if_expected, if_next, if_ok, one_of, read_then, weaken}
 use Rattle.justfile_model.proofs.Derivations.Beginnings.{attributes_begin, block_begins, line_begins}
 use Rattle.justfile_model.proofs.Derivations.CookedTexts.{AllCook, fragments_cook, lines_cook, items_cook, trimmed_literals}
-use Rattle.justfile_model.proofs.Readers.Meets.{Met, nothing_met, both_met, all_met}
+use Rattle.justfile_model.proofs.Readers.Meets.{Met, both_met, all_met}
 use Rattle.justfile_model.proofs.Sound.ExpressionSound as e
-use Rattle.justfile_model.proofs.Sound.ExpressionSound.{Derived, Here, expression_derives}
+use Rattle.justfile_model.proofs.Sound.ExpressionSound.{Derived, Here, again, alone, begins, ends, followed, plainly}
+use Rattle.justfile_model.proofs.Completeness.HeaderCovers.{not_there}
 
 module _ (conditions : Conditions) where
   -- trees with their tokens, under the limit
@@ -220,6 +221,50 @@ module _ (conditions : Conditions) where
     pub note : Note items by_construct features
     pub met : Met conditions.expander features (all_literals items) s.noted rest.noted
     pub stays : Here conditions 0 rest
+    pub obeys : AllObeyed conditions.current (token_view conditions) items
+
+  -- where these tokens come next
+  items_begin : {rule : List (ConstructFeatures Tok) → Tokens → Tokens → Type 0} {items : WrittenTree} {s rest : State} {ts : Tokens} → s.left ≡ ts
+      → DerivedItems rule items (at s ts) rest → DerivedItems rule items s rest
+  items_begin {rule} {rest = rest} split h = record {
+    by_construct = h.by_construct;
+    derives = subst (λ (us : Tokens). rule h.by_construct us rest.left) (sym split) h.derives;
+    features = h.features;
+    note = h.note;
+    met = h.met;
+    stays = h.stays;
+    obeys = h.obeys;
+  }
+
+  -- by another rule
+  items_again : {rule other : List (ConstructFeatures Tok) → Tokens → Tokens → Type 0} {items : WrittenTree} {s rest : State} {ts us : Tokens}
+      (h : DerivedItems rule items s rest) → other h.by_construct ts us → DerivedItems other items (at s ts) (at rest us)
+  items_again h derives =
+      record { by_construct = h.by_construct; derives = derives; features = h.features; note = h.note; met = h.met; stays = h.stays; obeys = h.obeys }
+
+  -- one after the other
+  items_followed : {rule next all : List (ConstructFeatures Tok) → Tokens → Tokens → Type 0} {is js : WrittenTree} {s mid rest : State} {ts us : Tokens}
+      (h : DerivedItems rule is s mid) (k : DerivedItems next js mid rest) → all (h.by_construct ++ k.by_construct) ts us
+      → DerivedItems all (is ++ js) (at s ts) (at rest us)
+  items_followed {is = is} {js = js} h k derives = record {
+    by_construct = h.by_construct ++ k.by_construct;
+    derives = derives;
+    features = h.features ++ k.features;
+    note = both_note is js h.by_construct k.by_construct h.features k.features h.note k.note;
+    met = joined h.met k.met (items_cook conditions.expander is js h.met.cooks k.met.cooks);
+    stays = k.stays;
+    obeys = both_obeyed conditions.current (token_view conditions) is js h.obeys k.obeys;
+  }
+
+  -- items without features and literals
+  bare_items : {rule : List (ConstructFeatures Tok) → Tokens → Tokens → Type 0} {items : WrittenTree} {s : State} {ts : Tokens} → Here conditions 0 s
+      → Note items [] [] → AllCook conditions.expander (all_literals items) → AllObeyed conditions.current (token_view conditions) items → rule [] s.left ts
+      → DerivedItems rule items s (at s ts)
+  bare_items {s = s} here note cooks obeys derives =
+      record { by_construct = []; derives = derives; features = []; note = note; met = record { noted_is = sym (append-nil s.noted); cooks = cooks }; stays = here; obeys = obeys }
+
+  a_newline : AllObeyed {C = ℕ} conditions.current (token_view conditions) (tree.Newline ∷ [])
+  a_newline = (newline_obeyed conditions.current (token_view conditions), tt)
 
   -- an item that was read: it derives, and obeys the rules
   pub record IsOnLine (s : State) (x : (WrittenItem Tok Tok ℕ Tok × Counters) × State) : Type 0 where
@@ -245,6 +290,7 @@ module _ (conditions : Conditions) where
     pub derives : File x.0 by_construct ts
     pub features_are : x.1 ≡ all_features (token_view conditions) x.0 by_construct
     pub cooks : AllCook conditions.expander (all_literals x.0)
+    pub obeys : AllObeyed conditions.current (token_view conditions) x.0
 
   -- what an item of this kind with this name breaks by its attributes
   abbrev name_breaks : ItemKind → List ReadAttribute → Tok → Conditions → List (Broken Tok)
@@ -257,112 +303,85 @@ module _ (conditions : Conditions) where
   abbrev ReadItem : Type 0
   ReadItem = Read (WrittenItem Tok Tok ℕ Tok × Counters)
 
-  -- no feature is noted
-  unnoted : {a b : List (Noted Tok)} → b ≡ a → Met conditions.expander [] [] a b
-  unnoted {a} {b} e = record { noted_is = e ∙ sym (append-nil a); cooks = tt }
+  -- attributes that a construct with this name may have
+  if_allowed : {X : Type 0} {P : X × State → Type 0} (item : ItemKind) (ws : List ReadAttribute) (name : SignificantToken) (s : State) (f : Unit {0} × State → Read X)
+      → s.run ≡ conditions → (name_breaks item ws name.tok conditions ≡ [] → Holds P (f (tt, s)))
+      → Holds P (check_allowed token_leaves token_attributes item ws name s >>= f)
+  if_allowed item ws name s f run goes =
+      if_obeyed (name_breaks item ws name.tok s.run) s f (λ none. goes (subst (λ run. name_breaks item ws name.tok run ≡ []) run none))
+
+  -- a construct without a body, which notes no features at its name
+  on_line : {ws : List ReadAttribute} {n : Counters} {s rest : State} (c : Content Tok Tok ℕ Tok) → content_has_body c ≡ false → entries_features c (meant ws) ≡ []
+      → Derived conditions (OnLine c) (content_literals c) 0 s rest → meaning_broken (token_view conditions) c (meant ws) ≡ []
+      → form_broken conditions.current (token_view conditions) c ≡ [] → IsContent ws s ((Construct (written_in ws) c, n), rest)
+  on_line {s = s} {rest = rest} c bodyless featureless h unbroken formed = record {
+    content = c;
+    is = refl;
+    features = h.features;
+    derives = subst (λ b. Contents b c h.features s.left rest.left) (sym bodyless) (a_line h.derives);
+    met = subst (λ fs. Met conditions.expander (fs ++ h.features) (content_literals c) s.noted rest.noted) (sym featureless) h.met;
+    stays = h.stays;
+    unbroken = unbroken;
+    formed = formed;
+  }
 
   -- an assignment from its name on, where one begins so
   pub assignment_sound : (eager export : Bool) (ws : List ReadAttribute) (n : Counters) (s : State) (ts : Tokens) → Here conditions 0 s
       → ((name operator : SignificantToken) (us rest : Tokens) (e : Expr Tok Tok) (fs : List (Noted Tok)) → s.left ≡ name ∷ operator ∷ us
       → IsKind kinds.Identifier name → IsKind kinds.ColonEquals operator → Expression false 0 e fs us rest
       → OnLine (tree.Assignment (assignment_of eager export name.tok e)) fs ts rest)
-      → IfOk (assignment token_leaves token_attributes eager export ws n s) (IsContent ws (at s ts))
+      → Holds (IsContent ws (at s ts)) (assignment token_leaves token_attributes eager export ws n s)
   unfolding assignment next_binding_number
-  assignment_sound eager export ws n s ts here begins =
-      let P : ReadItem → Type 0 = λ o. IfOk o (IsContent ws (at s ts)) in
-      after_expect kinds.Identifier s _ P (λ e. tt) (λ name t1 split kind.
-      after_expect kinds.ColonEquals (at s t1) _ P (λ e. tt) (λ operator t2 split2 kind2.
-      after_bind (expression token_leaves (at s t2)) _ P (λ e. tt) (λ e is.
-      let found = expression_derives conditions false 0 (at s t2) e is here in
-      after_obeying (name_breaks item_kinds.Assignment ws name.tok e.1.run) e.1 _ P (λ e. tt) (λ none.
-      record {
-        content = tree.Assignment (assignment_of eager export name.tok e.0);
-        is = refl;
-        features = found.features;
-        derives = a_line (begins name operator t2 e.1.left e.0 found.features (split ∙ ap (λ (l : Tokens). name ∷ l) split2) kind kind2 found.derives);
-        met = found.met;
-        stays = found.stays;
-        unbroken = subst (λ run. name_breaks item_kinds.Assignment ws name.tok run ≡ []) found.stays.1 none;
-        formed = refl;
-      }))))
+  assignment_sound eager export ws n s ts here derive =
+      if_expected kinds.Identifier s _ (λ name t1 split kind. if_expected kinds.ColonEquals (at s t1) _ (λ operator t2 split2 kind2.
+      read_then (e.expression_sound conditions (at s t2) here) (λ x found.
+      if_allowed item_kinds.Assignment ws name x.1 _ found.stays.1 (λ none.
+      holds (on_line (tree.Assignment (assignment_of eager export name.tok x.0)) refl refl
+      (again found (derive name operator t2 x.1.left x.0 found.features (split ∙ ap (λ (l : Tokens). name ∷ l) split2) kind kind2 found.derives)) none refl)))))
 
   alias_sound : (ws : List ReadAttribute) (n : Counters) (s : State) → Here conditions 0 s → (word : SignificantToken) (t0 : Tokens) → s.left ≡ word ∷ t0
-      → IsWord (codes "alias") word → IfOk (alias token_leaves token_attributes ws n (at s t0)) (IsContent ws s)
+      → IsWord (codes "alias") word → Holds (IsContent ws s) (alias token_leaves token_attributes ws n (at s t0))
   unfolding alias
   alias_sound ws n s here word t0 split0 is_word =
-      let P : ReadItem → Type 0 = λ o. IfOk o (IsContent ws s) in
-      after_expect kinds.Identifier (at s t0) _ P (λ e. tt) (λ name t1 split kind.
-      after_expect kinds.ColonEquals (at s t1) _ P (λ e. tt) (λ operator t2 split2 kind2.
-      after_bind (path token_leaves (at s t2)) _ P (λ e. tt) (λ target is.
-      let found = path_at conditions (at s t2) target is here in
-      let c : Content Tok Tok ℕ Tok = tree.Alias (record { name = name.tok; target = target.0 }) in
-      after_obeying (name_breaks item_kinds.Alias ws name.tok target.1.run) target.1 _ P (λ e. tt) (λ none.
-      record {
-        content = c;
-        is = refl;
-        features = [];
-        derives = a_line (subst (λ (l : Tokens). OnLine c [] l target.1.left)
-            (sym (split0 ∙ ap (λ (l : Tokens). word ∷ l) (split ∙ ap (λ (l : Tokens). name ∷ l) split2))) (g.alias is_word kind kind2 found.derives));
-        met = unnoted found.noted_is;
-        stays = found.stays;
-        unbroken = subst (λ run. name_breaks item_kinds.Alias ws name.tok run ≡ []) found.stays.1 none;
-        formed = refl;
-      }))))
+      if_expected kinds.Identifier (at s t0) _ (λ name t1 split kind. if_expected kinds.ColonEquals (at s t1) _ (λ operator t2 split2 kind2.
+      read_then (path_sound conditions (at s t2) here) (λ target found.
+      if_allowed item_kinds.Alias ws name target.1 _ found.stays.1 (λ none.
+      holds (on_line (tree.Alias (record { name = name.tok; target = target.0 })) refl refl
+      (begins (split0 ∙ ap (λ (l : Tokens). word ∷ l) (split ∙ ap (λ (l : Tokens). name ∷ l) split2)) (again (quiet conditions found) (g.alias is_word kind kind2 found.derives)))
+      none refl)))))
 
   function_sound : (ws : List ReadAttribute) (n : Counters) (s : State) → Here conditions 0 s
-      → IfOk (function token_leaves token_attributes ws n s) (IsContent ws s)
+      → Holds (IsContent ws s) (function token_leaves token_attributes ws n s)
   unfolding function
   function_sound ws n s here =
-      let P : ReadItem → Type 0 = λ o. IfOk o (IsContent ws s) in
-      after_expect kinds.Identifier s _ P (λ e. tt) (λ name t1 split kind.
-      after_obeying (name_breaks item_kinds.Function ws name.tok s.run) (at s t1) _ P (λ e. tt) (λ none.
-      after_expect kinds.ParenL (at s t1) _ P (λ e. tt) (λ opener t2 split2 kind2.
-      after_bind (names token_leaves (n, at s t2)) _ P (λ e. tt) (λ parameters is.
-      let all = names_at conditions (n, at s t2) parameters is here in
-      after_expect kinds.ColonEquals parameters.1 _ P (λ e. tt) (λ operator t3 split3 kind3.
-      after_bind (expression token_leaves (at parameters.1 t3)) _ P (λ e. tt) (λ body is2.
-      let found = expression_derives conditions false 0 (at parameters.1 t3) body is2 all.stays in
-      let c : Content Tok Tok ℕ Tok = tree.Function (record { name = name.tok; parameters = parameters.0.0; body = body.0 }) in
-      record {
-        content = c;
-        is = refl;
-        features = found.features;
-        derives = a_line (subst (λ (l : Tokens). OnLine c found.features l body.1.left) (sym (split ∙ ap (λ (l : Tokens). name ∷ l) split2))
-            (g.function kind kind2 (subst (λ (l : Tokens). Names itself parameters.0.0 t2 l) split3 all.derives) kind3 found.derives));
-        met = subst (λ noted. Met conditions.expander found.features (content_literals c) noted body.1.noted) all.noted_is found.met;
-        stays = found.stays;
-        unbroken = subst (λ run. name_breaks item_kinds.Function ws name.tok run ≡ []) here.1 none;
-        formed = refl;
-      }))))))
+      if_expected kinds.Identifier s _ (λ name t1 split kind.
+      if_allowed item_kinds.Function ws name (at s t1) _ here.1 (λ none.
+      if_expected kinds.ParenL (at s t1) _ (λ opener t2 split2 kind2.
+      read_then (names_sound conditions (n, at s t2) here) (λ parameters all.
+      if_expected kinds.ColonEquals parameters.1 _ (λ operator t3 split3 kind3.
+      read_then (e.expression_sound conditions (at parameters.1 t3) all.stays) (λ body found.
+      let between = ends split3 (quiet conditions all) in
+      holds (on_line (tree.Function (record { name = name.tok; parameters = parameters.0.0; body = body.0 })) refl refl
+      (begins (split ∙ ap (λ (l : Tokens). name ∷ l) split2) (followed between found (g.function kind kind2 between.derives kind3 found.derives))) none refl)))))))
 
   -- an import from its path on, where one begins so
   imported_sound : (optional : Bool) (ws : List ReadAttribute) (n : Counters) (s : State) (ts : Tokens) → Here conditions 0 s
       → ((q : Quoted Tok) (rest : Tokens) → FilePath itself q s.left rest → OnLine (tree.Import (record { optional = optional; path = q })) [] ts rest)
-      → IfOk (imported token_leaves token_attributes optional ws n s) (IsContent ws (at s ts))
+      → Holds (IsContent ws (at s ts)) (imported token_leaves token_attributes optional ws n s)
   unfolding imported
-  imported_sound optional ws n s ts here begins =
-      let P : ReadItem → Type 0 = λ o. IfOk o (IsContent ws (at s ts)) in
-      after_bind (file_path token_leaves s) _ P (λ e. tt) (λ path is.
-      let found = file_path_at conditions s path is here in
-      after_obeying (name_breaks item_kinds.Import ws path.0.0.tok path.1.run) path.1 _ P (λ e. tt) (λ none.
-      record {
-        content = tree.Import (record { optional = optional; path = path.0.1 });
-        is = refl;
-        features = [];
-        derives = a_line (begins path.0.1 path.1.left found.derives);
-        met = found.met;
-        stays = found.stays;
-        unbroken = subst (λ token. name_breaks item_kinds.Import ws token conditions ≡ []) found.token_is
-            (subst (λ run. name_breaks item_kinds.Import ws path.0.0.tok run ≡ []) found.stays.1 none);
-        formed = refl;
-      }))
+  imported_sound optional ws n s ts here derive =
+      read_then (file_path_sound conditions s here) (λ path found.
+      if_allowed item_kinds.Import ws path.0.0 path.1 _ found.stays.1 (λ none.
+      holds (on_line (tree.Import (record { optional = optional; path = path.0.1 })) refl refl
+      (record { features = []; derives = derive path.0.1 path.1.left found.derives; met = found.met; stays = found.stays })
+      (subst (λ token. name_breaks item_kinds.Import ws token conditions ≡ []) found.token_is none) refl)))
 
   import_sound : (ws : List ReadAttribute) (n : Counters) (s : State) → Here conditions 0 s → (word : SignificantToken) (t0 : Tokens) → s.left ≡ word ∷ t0
-      → IsWord (codes "import") word → IfOk (import token_leaves token_attributes ws n (at s t0)) (IsContent ws s)
+      → IsWord (codes "import") word → Holds (IsContent ws s) (import token_leaves token_attributes ws n (at s t0))
   unfolding import accepted
   import_sound ws n s here word t0 split0 is_word =
       after_accept kinds.QuestionMark (at s t0)
-      (λ o. IfOk (imported token_leaves token_attributes (taken_or (at s t0) o).0 ws n (taken_or (at s t0) o).1) (IsContent ws s))
+      (λ o. Holds (IsContent ws s) (imported token_leaves token_attributes (taken_or (at s t0) o).0 ws n (taken_or (at s t0) o).1))
       (λ _. imported_sound false ws n (at s t0) s.left here (λ q rest h. subst (λ (l : Tokens). OnLine (import_of false q) [] l rest) (sym split0) (g.import is_word h)))
       (λ mark t1 split kind. imported_sound true ws n (at s t1) s.left here (λ q rest h.
       subst (λ (l : Tokens). OnLine (import_of true q) [] l rest) (sym (split0 ∙ ap (λ (l : Tokens). word ∷ l) split)) (g.optional_import is_word kind h)))
@@ -376,84 +395,46 @@ module _ (conditions : Conditions) where
       → OnLine (tree.Module (bare_module optional name.tok None)) [] ts rest)
       → ((name : SignificantToken) (us rest : Tokens) (q : Quoted Tok) → s.left ≡ name ∷ us → IsKind kinds.Identifier name → FilePath itself q us rest
       → OnLine (tree.Module (bare_module optional name.tok (Some q))) [] ts rest)
-      → IfOk (named_module token_leaves token_attributes optional ws n s) (IsContent ws (at s ts))
+      → Holds (IsContent ws (at s ts)) (named_module token_leaves token_attributes optional ws n s)
   unfolding named_module
-  named_module_sound optional ws n s ts here alone with_file =
-      let P : ReadItem → Type 0 = λ o. IfOk o (IsContent ws (at s ts)) in
-      after_expect kinds.Identifier s _ P (λ e. tt) (λ name t1 split kind.
-      after_bind (optional_path token_leaves (at s t1)) _ P (λ e. tt) (λ path is.
-      finished name t1 split kind path (known path (IsOptionalPath conditions (at s t1)) is (optional_path_sound conditions (at s t1) here))))
+  named_module_sound optional ws n s ts here without_file with_file =
+      if_expected kinds.Identifier s _ (λ name t1 split kind.
+      read_then (optional_path_sound conditions (at s t1) here) (λ path found. finished name t1 split kind path found))
     where
       finished : (name : SignificantToken) (t1 : Tokens) → s.left ≡ name ∷ t1 → IsKind kinds.Identifier name → (path : Option (Quoted Tok) × State)
           → IsOptionalPath conditions (at s t1) path
-          → IfOk (check_allowed token_leaves token_attributes item_kinds.Module ws name path.1 >>= λ checked.
-          constructed token_leaves token_attributes ws (tree.Module (bare_module optional name.tok path.0)) n checked.1) (IsContent ws (at s ts))
+          → Holds (IsContent ws (at s ts)) (check_allowed token_leaves token_attributes item_kinds.Module ws name path.1 >>= λ checked.
+          constructed token_leaves token_attributes ws (tree.Module (bare_module optional name.tok path.0)) n checked.1)
       finished name t1 split kind path (without_path none) =
-          let P : ReadItem → Type 0 = λ o. IfOk o (IsContent ws (at s ts)) in
-          after_obeying (name_breaks item_kinds.Module ws name.tok s.run) (at s t1) _ P (λ e. tt) (λ obeys.
-          record {
-            content = tree.Module (bare_module optional name.tok None);
-            is = refl;
-            features = [];
-            derives = a_line (alone name t1 split kind none);
-            met = nothing_met;
-            stays = here;
-            unbroken = subst (λ run. name_breaks item_kinds.Module ws name.tok run ≡ []) here.1 obeys;
-            formed = refl;
-          })
+          if_allowed item_kinds.Module ws name (at s t1) _ here.1 (λ obeys.
+          holds (on_line (tree.Module (bare_module optional name.tok None)) refl refl (plainly here (without_file name t1 split kind none)) obeys refl))
       finished name t1 split kind path (with_path {x = x} found) =
-          let P : ReadItem → Type 0 = λ o. IfOk o (IsContent ws (at s ts)) in
-          after_obeying (name_breaks item_kinds.Module ws name.tok x.1.run) x.1 _ P (λ e. tt) (λ obeys.
-          record {
-            content = tree.Module (bare_module optional name.tok (Some x.0.1));
-            is = refl;
-            features = [];
-            derives = a_line (with_file name t1 x.1.left x.0.1 split kind found.derives);
-            met = found.met;
-            stays = found.stays;
-            unbroken = subst (λ run. name_breaks item_kinds.Module ws name.tok run ≡ []) found.stays.1 obeys;
-            formed = refl;
-          })
+          if_allowed item_kinds.Module ws name x.1 _ found.stays.1 (λ obeys.
+          holds (on_line (tree.Module (bare_module optional name.tok (Some x.0.1))) refl refl
+          (record { features = []; derives = with_file name t1 x.1.left x.0.1 split kind found.derives; met = found.met; stays = found.stays }) obeys refl))
 
   -- where a module is alone on its line, no path comes next and no `?`
   module_ends : (s : State) (t0 : Tokens) → is_module token_leaves (at s t0) ≡ true → NotNext kinds.QuestionMark t0 → (name : SignificantToken) (t1 : Tokens)
       → t0 ≡ name ∷ t1 → NoPath t1 → EndsLine t1
   module_ends s t0 h not name t1 split none =
-      go (next_are token_leaves (kinds.QuestionMark ∷ []) (at s t0)) (line_is token_leaves (kinds.Identifier ∷ []) (at s t0))
-      (next_are token_leaves (kinds.Identifier ∷ kinds.StringToken ∷ []) (at s t0))
-      (next_are token_leaves (kinds.Identifier ∷ kinds.Identifier ∷ kinds.StringToken ∷ []) (at s t0)) refl refl refl refl h
+      let next : (ks : List TokenKind) → next_are token_leaves ks (at s t0) ≡ true → AreNext ks (name ∷ t1) = λ ks is. subst (AreNext ks) split (are_next ks (at s t0) is) in
+      one_of _ _ h (λ h. one_of _ _ h (λ h. one_of _ _ h
+      (λ is. absurd (not_there kinds.QuestionMark t0 not (are_next (kinds.QuestionMark ∷ []) (at s t0) is)))
+      (λ is. line_ends (at s t0) name t1 split is))
+      (λ is. absurd (not_there kinds.StringToken t1 none.unmarked (next (kinds.Identifier ∷ kinds.StringToken ∷ []) is).1)))
+      (λ is. absurd (named t1 (next (kinds.Identifier ∷ kinds.Identifier ∷ kinds.StringToken ∷ []) is).1 none.marked))
     where
-      marked : (l : Tokens) → AreNext (kinds.QuestionMark ∷ []) l → NotNext kinds.QuestionMark l → ⊥
-      marked [] a n = absurd a
-      marked (t ∷ ts) a n = n a.0
-
-      string_next : (l : Tokens) → AreNext (kinds.Identifier ∷ kinds.StringToken ∷ []) (name ∷ l) → NotNext kinds.StringToken l → ⊥
-      string_next [] a n = absurd a.1
-      string_next (t ∷ ts) a n = n a.1.0
-
-      name_next : (l : Tokens) → AreNext (kinds.Identifier ∷ kinds.Identifier ∷ kinds.StringToken ∷ []) (name ∷ l) → NotNamedString l → ⊥
-      name_next [] a n = absurd a.1
-      name_next (t ∷ []) a n = absurd a.1.1
-      name_next (t ∷ u ∷ ts) a n = n a.1.0 a.1.1.0
-
-      go : (a b c d : Bool) → next_are token_leaves (kinds.QuestionMark ∷ []) (at s t0) ≡ a → line_is token_leaves (kinds.Identifier ∷ []) (at s t0) ≡ b
-          → next_are token_leaves (kinds.Identifier ∷ kinds.StringToken ∷ []) (at s t0) ≡ c
-          → next_are token_leaves (kinds.Identifier ∷ kinds.Identifier ∷ kinds.StringToken ∷ []) (at s t0) ≡ d → (a || b || c || d) ≡ true → EndsLine t1
-      go true b c d x y z w h = absurd (marked t0 (are_next (kinds.QuestionMark ∷ []) (at s t0) x) not)
-      go false true c d x y z w h = line_ends (at s t0) name t1 split y
-      go false false true d x y z w h =
-          absurd (string_next t1 (subst (AreNext (kinds.Identifier ∷ kinds.StringToken ∷ [])) split (are_next (kinds.Identifier ∷ kinds.StringToken ∷ []) (at s t0) z)) none.unmarked)
-      go false false false true x y z w h =
-          absurd (name_next t1 (subst (AreNext (kinds.Identifier ∷ kinds.Identifier ∷ kinds.StringToken ∷ [])) split
-          (are_next (kinds.Identifier ∷ kinds.Identifier ∷ kinds.StringToken ∷ []) (at s t0) w)) none.marked)
-      go false false false false x y z w h = cc
+      named : (l : Tokens) → AreNext (kinds.Identifier ∷ kinds.StringToken ∷ []) l → NotNamedString l → ⊥
+      named [] a n = absurd a
+      named (t ∷ []) a n = absurd a.1
+      named (t ∷ u ∷ ts) a n = n a.0 a.1.0
 
   any_module_sound : (ws : List ReadAttribute) (n : Counters) (s : State) → Here conditions 0 s → (word : SignificantToken) (t0 : Tokens) → s.left ≡ word ∷ t0
-      → IsWord (codes "mod") word → is_module token_leaves (at s t0) ≡ true → IfOk (any_module token_leaves token_attributes ws n (at s t0)) (IsContent ws s)
+      → IsWord (codes "mod") word → is_module token_leaves (at s t0) ≡ true → Holds (IsContent ws s) (any_module token_leaves token_attributes ws n (at s t0))
   unfolding any_module accepted
   any_module_sound ws n s here word t0 split0 is_word follows =
       after_accept kinds.QuestionMark (at s t0)
-      (λ o. IfOk (named_module token_leaves token_attributes (taken_or (at s t0) o).0 ws n (taken_or (at s t0) o).1) (IsContent ws s))
+      (λ o. Holds (IsContent ws s) (named_module token_leaves token_attributes (taken_or (at s t0) o).0 ws n (taken_or (at s t0) o).1))
       (λ not. named_module_sound false ws n (at s t0) s.left here
       (λ name rest split kind none. subst (λ (l : Tokens). OnLine (module_of false name None) [] l rest) (sym (split0 ∙ ap (λ (l : Tokens). word ∷ l) split))
       (g.module_alone is_word kind (module_ends s t0 follows not name rest split none)))
@@ -471,224 +452,132 @@ module _ (conditions : Conditions) where
   -- where no `:=` comes next, a setting is alone on its line
   setting_ends : (s : State) (t0 : Tokens) → is_set token_leaves (at s t0) ≡ true → (name : SignificantToken) (t1 : Tokens) → t0 ≡ name ∷ t1
       → NotNext kinds.ColonEquals t1 → EndsLine t1
-  setting_ends s t0 h name t1 split not = go (peek_assignment token_leaves (at s t0)) (line_is token_leaves (kinds.Identifier ∷ []) (at s t0)) refl refl h
-    where
-      assigned_next : (l : Tokens) → AreNext (kinds.Identifier ∷ kinds.ColonEquals ∷ []) (name ∷ l) → NotNext kinds.ColonEquals l → ⊥
-      assigned_next [] a n = absurd a.1
-      assigned_next (t ∷ ts) a n = n a.1.0
-
-      go : (a b : Bool) → peek_assignment token_leaves (at s t0) ≡ a → line_is token_leaves (kinds.Identifier ∷ []) (at s t0) ≡ b → (a || b) ≡ true → EndsLine t1
-      go true b x y h =
-          absurd (assigned_next t1 (subst (AreNext (kinds.Identifier ∷ kinds.ColonEquals ∷ [])) split (are_next (kinds.Identifier ∷ kinds.ColonEquals ∷ []) (at s t0) x)) not)
-      go false true x y h = line_ends (at s t0) name t1 split y
-      go false false x y h = cc
+  setting_ends s t0 h name t1 split not =
+      let assigned : List TokenKind = kinds.Identifier ∷ kinds.ColonEquals ∷ [] in
+      one_of _ _ h (λ is. absurd (not_there kinds.ColonEquals t1 not (subst (AreNext assigned) split (are_next assigned (at s t0) is)).1))
+      (λ is. line_ends (at s t0) name t1 split is)
 
   setting_sound : (ws : List ReadAttribute) (n : Counters) (s : State) → Here conditions 0 s → (word : SignificantToken) (t0 : Tokens) → s.left ≡ word ∷ t0
-      → IsWord (codes "set") word → is_set token_leaves (at s t0) ≡ true → IfOk (setting token_leaves token_attributes ws n (at s t0)) (IsContent ws s)
+      → IsWord (codes "set") word → is_set token_leaves (at s t0) ≡ true → Holds (IsContent ws s) (setting token_leaves token_attributes ws n (at s t0))
   unfolding setting
   setting_sound ws n s here word t0 split0 is_word follows =
-      let P : ReadItem → Type 0 = λ o. IfOk o (IsContent ws s) in
-      after_expect kinds.Identifier (at s t0) _ P (λ e. tt) (λ name t1 split kind.
-      after_keyword name (at s t1) _ P (λ e. tt) (λ keyword spelled.
-      after_obeying (name_breaks item_kinds.Setting ws name.tok s.run) (at s t1) _ P (λ e. tt) (λ obeys.
+      if_expected kinds.Identifier (at s t0) _ (λ name t1 split kind.
+      after_keyword name (at s t1) _ (λ keyword spelled.
+      if_allowed item_kinds.Setting ws name (at s t1) _ here.1 (λ obeys.
       by_form name t1 split kind keyword spelled obeys (setting_form keyword) refl)))
     where
-      setting_of : SignificantToken → Keyword → SettingValue Tok Tok → Content Tok Tok ℕ Tok
-      setting_of name keyword value = tree.Setting (record { keyword = keyword; name = name.tok; value = value })
-
       by_form : (name : SignificantToken) (t1 : Tokens) → t0 ≡ name ∷ t1 → IsKind kinds.Identifier name → (keyword : Keyword) → name.tok.lexeme ≡ keyword_text keyword
-          → name_breaks item_kinds.Setting ws name.tok s.run ≡ [] → (form : Option SettingForm) → setting_form keyword ≡ form
-          → IfOk (setting_value token_leaves token_view name keyword form (at s t1) >>= λ value.
-          constructed token_leaves token_attributes ws (tree.Setting (record { keyword = keyword; name = name.tok; value = value.0 })) n value.1) (IsContent ws s)
+          → name_breaks item_kinds.Setting ws name.tok conditions ≡ [] → (form : Option SettingForm) → setting_form keyword ≡ form
+          → Holds (IsContent ws s) (setting_value token_leaves token_view name keyword form (at s t1) >>= λ value.
+          constructed token_leaves token_attributes ws (tree.Setting (record { keyword = keyword; name = name.tok; value = value.0 })) n value.1)
       by_form name t1 split kind keyword spelled obeys None is =
-          let P : ReadItem → Type 0 = λ o. IfOk o (IsContent ws s) in
-          after_bind (setting_value token_leaves token_view name keyword None (at s t1)) _ P (λ e. tt)
-          (λ value is2. absurd (known value (λ x. ⊥) is2 (no_value conditions name keyword (at s t1) (λ x. ⊥))))
+          read_then (no_value conditions name keyword (at s t1) (λ x. ⊥)) (λ value none. absurd none)
       by_form name t1 split kind keyword spelled obeys (Some form) is =
-          let P : ReadItem → Type 0 = λ o. IfOk o (IsContent ws s) in
-          after_bind (setting_value token_leaves token_view name keyword (Some form) (at s t1)) _ P (λ e. tt) (λ value is2.
-          let found = known value (IsSet conditions name keyword form (at s t1)) is2
-          (value_sound conditions name keyword form (at s t1) here (setting_ends s t0 follows name t1 split)) in
-          let c : Content Tok Tok ℕ Tok = tree.Setting (record { keyword = keyword; name = name.tok; value = value.0 }) in
-          record {
-            content = c;
-            is = refl;
-            features = found.derived.features;
-            derives = a_line (subst (λ (l : Tokens). OnLine c found.derived.features l value.1.left) (sym (split0 ∙ ap (λ (l : Tokens). word ∷ l) split))
-                (g.setting is_word (record { is_name = kind; spelled = spelled }) is found.derived.derives));
-            met = found.derived.met;
-            stays = found.derived.stays;
-            unbroken = subst (λ run. name_breaks item_kinds.Setting ws name.tok run ≡ []) here.1 obeys;
-            formed = subst (λ o. value_broken conditions.current (token_view conditions) o keyword name.tok value.0 ≡ []) (sym is) found.unbroken;
-          })
+          read_then (value_sound conditions name keyword form (at s t1) here (setting_ends s t0 follows name t1 split)) (λ value found.
+          let derived = found.derived in
+          holds (on_line (tree.Setting (record { keyword = keyword; name = name.tok; value = value.0 })) refl refl
+          (begins (split0 ∙ ap (λ (l : Tokens). word ∷ l) split) (again derived (g.setting is_word (record { is_name = kind; spelled = spelled }) is derived.derives)))
+          obeys (subst (λ o. value_broken conditions.current (token_view conditions) o keyword name.tok value.0 ≡ []) (sym is) found.unbroken)))
 
   unexport_sound : (ws : List ReadAttribute) (n : Counters) (s : State) → Here conditions 0 s → (word : SignificantToken) (t0 : Tokens) → s.left ≡ word ∷ t0
       → IsWord (codes "unexport") word → line_is token_leaves (kinds.Identifier ∷ []) (at s t0) ≡ true
-      → IfOk (unexport token_leaves token_attributes ws n (at s t0)) (IsContent ws s)
+      → Holds (IsContent ws s) (unexport token_leaves token_attributes ws n (at s t0))
   unfolding unexport
   unexport_sound ws n s here word t0 split0 is_word follows =
-      let P : ReadItem → Type 0 = λ o. IfOk o (IsContent ws s) in
-      after_expect kinds.Identifier (at s t0) _ P (λ e. tt) (λ name t1 split kind.
-      let c : Content Tok Tok ℕ Tok = tree.Unexport name.tok in
-      after_obeying (name_breaks item_kinds.Unexport ws name.tok s.run) (at s t1) _ P (λ e. tt) (λ obeys.
-      record {
-        content = c;
-        is = refl;
-        features = [];
-        derives = a_line (subst (λ (l : Tokens). OnLine c [] l t1) (sym (split0 ∙ ap (λ (l : Tokens). word ∷ l) split))
-            (g.unexport is_word kind (line_ends (at s t0) name t1 split follows)));
-        met = nothing_met;
-        stays = here;
-        unbroken = subst (λ run. name_breaks item_kinds.Unexport ws name.tok run ≡ []) here.1 obeys;
-        formed = refl;
-      }))
+      if_expected kinds.Identifier (at s t0) _ (λ name t1 split kind.
+      if_allowed item_kinds.Unexport ws name (at s t1) _ here.1 (λ obeys.
+      holds (on_line (tree.Unexport name.tok) refl refl
+      (begins (split0 ∙ ap (λ (l : Tokens). word ∷ l) split) (plainly here (g.unexport is_word kind (line_ends (at s t0) name t1 split follows)))) obeys refl)))
 
   -- ---- bodies
 
-  pub fragment_sound : (s : State) → Here conditions 0 s → IfOk (fragment token_leaves s) (IsFragment s)
+  pub fragment_sound : (s : State) → Here conditions 0 s → Holds (IsFragment s) (fragment token_leaves s)
   unfolding fragment
   fragment_sound s here =
-      let P : Read (Fragment Tok Tok) → Type 0 = λ o. IfOk o (IsFragment s) in
-      after_choose kinds.Text s _ _ P
-      (λ _. after_expect kinds.InterpolationStart s _ P (λ e. tt) (λ start t1 split kind.
-      after_bind (expression token_leaves (at s t1)) _ P (λ e. tt) (λ e is.
-      after_expect kinds.InterpolationEnd e.1 _ P (λ e. tt) (λ end t2 split2 kind2.
-      let found = expression_derives conditions false 0 (at s t1) e is here in
-      let R : List (Fragment Tok Tok) → List (Noted Tok) → Tokens → Tokens → Type 0 = λ more gs rest ts. LineRest (tree.Interpolation e.0 ∷ more) (found.features ++ gs) ts rest in
-      record {
-        features = found.features;
-        derives = λ more gs rest h. subst (R more gs rest) (sym split) (g.interpolation kind (subst (Expression false 0 e.0 found.features t1) split2 found.derives) kind2 h);
-        met = all_met found.met;
-        stays = found.stays;
-      }))))
-      (λ t rest split kind. record {
-        features = [];
-        derives = λ more gs left h. subst (λ (ts : Tokens). LineRest (tree.Text t.tok ∷ more) gs ts left) (sym split) (g.text kind h);
-        met = nothing_met;
-        stays = here;
-      })
+      if_next kinds.Text s _
+      (λ _. if_expected kinds.InterpolationStart s _ (λ start t1 split kind.
+      read_then (e.expression_sound conditions (at s t1) here) (λ x found.
+      if_expected kinds.InterpolationEnd x.1 _ (λ end t2 split2 kind2.
+      holds (begins split (alone found (λ more gs rest h. g.interpolation kind (ends split2 found).derives kind2 h)))))))
+      (λ t rest split kind. holds (begins split (plainly here (λ more gs left h. g.text kind h))))
 
-  pub fragment_at : (s : State) (x : Fragment Tok Tok × State) → fragment token_leaves s ≡ Ok x → Here conditions 0 s → IsFragment s x
-  fragment_at s x is here = known x (IsFragment s) is (fragment_sound s here)
-
-  line_rest_keeps : (f : State → Read (List (Fragment Tok Tok))) → ((s : State) → Here conditions 0 s → IfOk (f s) (IsLineRest s)) → (s : State) → Here conditions 0 s → IfOk (line_rest_rule token_leaves f s) (IsLineRest s)
-  unfolding line_rest_rule prepend
-  line_rest_keeps f h s here =
-      let P : Read (List (Fragment Tok Tok)) → Type 0 = λ o. IfOk o (IsLineRest s) in
-      after_choose kinds.Eol s _ _ P
-      (λ _. after_test (next_are token_leaves (kinds.Dedent ∷ []) s) _ _ P
-      (λ ends. record { features = []; derives = at_dedent s.left (are_next (kinds.Dedent ∷ []) s ends); met = nothing_met; stays = here })
-      (λ _. after_bind (fragment token_leaves s) _ P (λ e. tt) (λ x is. after_bind (f x.1) _ P (λ e. tt) (λ more is2.
-      let first = fragment_at s x is here in
-      let rest = known more (IsLineRest x.1) is2 (h x.1 first.stays) in
-      record {
+  pub line_rest_sound : (s : State) → Here conditions 0 s → Holds (IsLineRest s) (line_rest token_leaves s)
+  unfolding line_rest line_rest_rule prepend
+  line_rest_sound =
+      loop_has (λ s. s) (line_rest_rule token_leaves) (λ s found. Here conditions 0 s → Holds (IsLineRest s) found) (λ s here. failed) (λ f h s here.
+      if_next kinds.Eol s _
+      (λ _. after_test (next_are token_leaves (kinds.Dedent ∷ []) s) _ _ (Holds (IsLineRest s))
+      (λ ends. holds (plainly here (at_dedent s.left (are_next (kinds.Dedent ∷ []) s ends))))
+      (λ _. read_then (fragment_sound s here) (λ x first. read_then (h x.1 first.stays) (λ more rest. holds (record {
         features = first.features ++ rest.features;
         derives = first.derives more.0 rest.features more.1.left rest.derives;
         met = joined first.met rest.met (fragments_cook conditions.expander x.0 more.0 first.met.cooks rest.met.cooks);
         stays = rest.stays;
-      }))))
-      (λ t rest split kind. record { features = []; derives = subst (λ (ts : Tokens). LineRest [] [] ts rest) (sym split) (g.line_ends kind); met = nothing_met; stays = here })
+      })))))
+      (λ t rest split kind. holds (begins split (plainly here (g.line_ends kind)))))
 
-  pub line_rest_sound : (s : State) → Here conditions 0 s → IfOk (line_rest token_leaves s) (IsLineRest s)
-  unfolding line_rest
-  line_rest_sound = recursive_keeps (λ s. length s.left) (no_line_rest token_leaves) (line_rest_rule token_leaves) (λ s found. Here conditions 0 s → IfOk found (IsLineRest s)) (λ s here. tt) line_rest_keeps
-
-  pub line_rest_at : (s : State) (x : List (Fragment Tok Tok) × State) → line_rest token_leaves s ≡ Ok x → Here conditions 0 s → IsLineRest s x
-  line_rest_at s x is here = known x (IsLineRest s) is (line_rest_sound s here)
-
-  pub body_line_sound : (s : State) → Here conditions 0 s → IfOk (body_line token_leaves s) (IsBodyLine s)
+  pub body_line_sound : (s : State) → Here conditions 0 s → Holds (IsBodyLine s) (body_line token_leaves s)
   unfolding body_line
-  body_line_sound s here =
-      let P : Read (BodyLine Tok Tok ℕ) → Type 0 = λ o. IfOk o (IsBodyLine s) in
-      after_bind (line_rest token_leaves s) _ P (λ e. tt) (λ x is.
-      let found = line_rest_at s x is here in
-      record { features = found.features; derives = line_leads found.derives; met = all_met found.met; stays = found.stays })
+  body_line_sound s here = read_then (line_rest_sound s here) (λ x found. holds (alone found (line_leads found.derives)))
 
-  pub body_line_at : (s : State) (x : BodyLine Tok Tok ℕ × State) → body_line token_leaves s ≡ Ok x → Here conditions 0 s → IsBodyLine s x
-  body_line_at s x is here = known x (IsBodyLine s) is (body_line_sound s here)
-
-  lines_keep : (f : State → Read (List (BodyLine Tok Tok ℕ))) → ((s : State) → Here conditions 0 s → IfOk (f s) (IsLines s)) → (s : State) → Here conditions 0 s → IfOk (lines_rule token_leaves f s) (IsLines s)
-  unfolding lines_rule prepend
-  lines_keep f h s here =
-      let P : Read (List (BodyLine Tok Tok ℕ)) → Type 0 = λ o. IfOk o (IsLines s) in
-      after_choose kinds.Dedent s _ _ P
-      (λ not. after_bind (body_line token_leaves s) _ P (λ e. tt) (λ x is. after_bind (f x.1) _ P (λ e. tt) (λ more is2.
-      let first = body_line_at s x is here in
-      let rest = known more (IsLines x.1) is2 (h x.1 first.stays) in
-      record {
+  pub lines_sound : (s : State) → Here conditions 0 s → Holds (IsLines s) (lines token_leaves s)
+  unfolding lines lines_rule prepend
+  lines_sound =
+      loop_has (λ s. s) (lines_rule token_leaves) (λ s found. Here conditions 0 s → Holds (IsLines s) found) (λ s here. failed) (λ f h s here.
+      if_next kinds.Dedent s _
+      (λ not. read_then (body_line_sound s here) (λ x first. read_then (h x.1 first.stays) (λ more rest. holds (record {
         features = first.features ++ rest.features;
         derives = first.derives not more.0 rest.features more.1.left rest.derives;
         met = joined first.met rest.met (lines_cook conditions.expander x.0 more.0 first.met.cooks rest.met.cooks);
         stays = rest.stays;
-      })))
-      (λ t rest split kind. record { features = []; derives = subst (λ (ts : Tokens). BodyLines [] [] ts rest) (sym split) (g.no_line kind); met = nothing_met; stays = here })
+      }))))
+      (λ t rest split kind. holds (begins split (plainly here (g.no_line kind)))))
 
-  pub lines_sound : (s : State) → Here conditions 0 s → IfOk (lines token_leaves s) (IsLines s)
-  unfolding lines
-  lines_sound = recursive_keeps (λ s. length s.left) (no_lines token_leaves) (lines_rule token_leaves) (λ s found. Here conditions 0 s → IfOk found (IsLines s)) (λ s here. tt) lines_keep
+  some_left : (s rest : State) (all ls : List (BodyLine Tok Tok ℕ)) → Derived conditions (BodyLines all) (body_literals all) 0 s rest → trimmed all ≡ ls → Holds (IsBody s) (some_lines token_leaves ls rest)
+  some_left s rest all [] h e = failed
+  some_left s rest all (l ∷ ls) h e = holds (record {
+    all = all;
+    features = h.features;
+    lines = h.derives;
+    left = e;
+    some = tt;
+    met = with_literals h.met (subst (AllCook conditions.expander) (sym (trimmed_literals all) ∙ ap body_literals e) h.met.cooks);
+    stays = h.stays;
+  })
 
-  pub lines_at : (s : State) (x : List (BodyLine Tok Tok ℕ) × State) → lines token_leaves s ≡ Ok x → Here conditions 0 s → IsLines s x
-  lines_at s x is here = known x (IsLines s) is (lines_sound s here)
-
-  some_left : (s rest : State) (all ls : List (BodyLine Tok Tok ℕ)) → Derived conditions (BodyLines all) (body_literals all) 0 s rest → trimmed all ≡ ls → IfOk (some_lines token_leaves ls rest) (IsBody s)
-  some_left s rest all [] h e = tt
-  some_left s rest all (l ∷ ls) h e =
-      record {
-        all = all;
-        features = h.features;
-        lines = h.derives;
-        left = e;
-        some = tt;
-        met = with_literals h.met (subst (AllCook conditions.expander) (sym (trimmed_literals all) ∙ ap body_literals e) h.met.cooks);
-        stays = h.stays;
-      }
-
-  pub body_sound : (s : State) → Here conditions 0 s → IfOk (body token_leaves s) (IsBody s)
+  pub body_sound : (s : State) → Here conditions 0 s → Holds (IsBody s) (body token_leaves s)
   unfolding body
-  body_sound s here =
-      after_bind (lines token_leaves s) _ (λ o. IfOk o (IsBody s)) (λ e. tt) (λ x is. some_left s x.1 x.0 (trimmed x.0) (lines_at s x is here) refl)
+  body_sound s here = read_then (lines_sound s here) (λ x found. some_left s x.1 x.0 (trimmed x.0) found refl)
 
   body_is_after : (s : State) (comment : Option SignificantToken) (first : Tokens) → BeforeBody (comment_text_of comment) s.left first → Here conditions 0 s
-      → IfOk (body_after token_leaves comment (at s first)) (IsOptionalBody s)
+      → Holds (IsOptionalBody s) (body_after token_leaves comment (at s first))
   unfolding body_after
-  body_is_after s comment first b here = go (body token_leaves (at s first)) (body_sound (at s first) here)
-    where
-      go : (found : Read (List (BodyLine Tok Tok ℕ))) → IfOk found (IsBody (at s first)) → IfOk (found >>= λ ls. Ok ((comment, ls.0), ls.1)) (IsOptionalBody s)
-      go (Ok x) h = a_body b h
-      go (Err e) h = tt
+  body_is_after s comment first b here = read_then (body_sound (at s first) here) (λ x found. holds (a_body b found))
 
-  pub optional_body_sound : (s : State) → Here conditions 0 s → IfOk (optional_body token_leaves s) (IsOptionalBody s)
+  pub optional_body_sound : (s : State) → Here conditions 0 s → Holds (IsOptionalBody s) (optional_body token_leaves s)
   unfolding optional_body
   optional_body_sound s here =
-      let P : Read (reader.CommentedBody token_leaves) → Type 0 = λ o. IfOk o (IsOptionalBody s) in
+      let P : Read (reader.CommentedBody token_leaves) → Type 0 = Holds (IsOptionalBody s) in
       let short : State = at s (drop 2 s.left) in
       let long : State = at s (drop 3 s.left) in
       after_test (next_are token_leaves (kinds.Eol ∷ kinds.Indent ∷ []) s) _ _ P
       (λ h. body_is_after s None short.left (starts_at_once s.left (are_next (kinds.Eol ∷ kinds.Indent ∷ []) s h)) here)
       (λ _. after_test (next_are token_leaves (kinds.Comment ∷ kinds.Eol ∷ kinds.Indent ∷ []) s) _ _ P
       (λ h. body_is_after s (front s.left) long.left (starts_commented s.left (are_next (kinds.Comment ∷ kinds.Eol ∷ kinds.Indent ∷ []) s h)) here)
-      (λ _. no_body))
-
-  pub optional_body_at : (s : State) (x : reader.CommentedBody token_leaves × State) → optional_body token_leaves s ≡ Ok x → Here conditions 0 s → IsOptionalBody s x
-  optional_body_at s x is here = known x (IsOptionalBody s) is (optional_body_sound s here)
+      (λ _. holds no_body))
 
   -- ---- items
 
   -- a header with its body, or without one
-  record IsHeaded (h : Header Tok Tok Tok) (fs : List (Noted Tok)) (ts : Tokens) (s : State) (x : reader.CommentedBody token_leaves × State) : Type 0 where
-    features : List (Noted Tok)
-    derives : Contents (content_has_body (recipe_content h (comment_text_of x.0.0) x.0.1)) (recipe_content h (comment_text_of x.0.0) x.0.1) (fs ++ features) ts x.1.left
-    met : Met conditions.expander features (body_literals x.0.1) s.noted x.1.noted
-    stays : Here conditions 0 x.1
+  abbrev IsHeaded : Header Tok Tok Tok → List (Noted Tok) → Tokens → State → reader.CommentedBody token_leaves × State → Type 0
+  IsHeaded h fs ts s x =
+      let c = recipe_content h (comment_text_of x.0.0) x.0.1 in
+      Derived conditions (λ gs _ rest. Contents (content_has_body c) c (fs ++ gs) ts rest) (body_literals x.0.1) 0 s x.1
 
   headed : (h : Header Tok Tok Tok) (fs : List (Noted Tok)) (ts : Tokens) (s : State) (x : reader.CommentedBody token_leaves × State) → Here conditions 0 s
       → HeaderOf conditions h fs ts s.left → IsOptionalBody s x → IsHeaded h fs ts s x
-  headed h fs ts s x here o no_body = record {
-    features = [];
-    derives = subst (λ l. Contents false (recipe_content h None []) l ts s.left) (sym (append-nil fs)) (a_line (g.header o));
-    met = nothing_met;
-    stays = here;
-  }
+  headed h fs ts s x here o no_body =
+      plainly here (subst (λ l. Contents false (recipe_content h None []) l ts s.left) (sym (append-nil fs)) (a_line (g.header o)))
   headed h fs ts s x here o (a_body {comment = comment} {x = y} b k) =
       let text : Option (List ℕ) = comment_text_of comment in
       let R : List (BodyLine Tok Tok ℕ) → Type 0 = λ ls. Block (recipe_content h text ls) (fs ++ k.features) ts y.1.left in
@@ -702,21 +591,17 @@ module _ (conditions : Conditions) where
   -- a recipe from its name on, where a header begins so
   recipe_sound : (quiet : Bool) (ws : List ReadAttribute) (n : Counters) (s : State) (ts : Tokens) → Here conditions 0 s
       → ((h : Header Tok Tok Tok) (fs : List (Noted Tok)) (rest : Tokens) → NamedHeader conditions quiet h fs s.left rest → HeaderOf conditions h fs ts rest)
-      → IfOk (recipe token_leaves token_attributes quiet ws n s) (IsContent ws (at s ts))
+      → Holds (IsContent ws (at s ts)) (recipe token_leaves token_attributes quiet ws n s)
   unfolding recipe next_recipe_number
-  recipe_sound quiet ws n s ts here begins =
-      let P : Read (WrittenItem Tok Tok ℕ Tok × Counters) → Type 0 = λ o. IfOk o (IsContent ws (at s ts)) in
+  recipe_sound quiet ws n s ts here derive =
       let rules_in = argument_rules token_leaves token_attributes in
-      after_bind (header token_leaves token_view (rules_in s.run ws) n s) _ P (λ e. tt) (λ h is.
-      let head : IsHeader conditions (rules_in conditions ws) s h =
-      subst (λ run. IsHeader conditions (rules_in run ws) s h) here.1
-      (known h (IsHeader conditions (rules_in s.run ws) s) is (header_sound conditions (rules_in s.run ws) n s here)) in
+      read_then (header_sound conditions (rules_in s.run ws) n s here) (λ h is.
+      let head : IsHeader conditions (rules_in conditions ws) s h = subst (λ run. IsHeader conditions (rules_in run ws) s h) here.1 is in
       let all : Header Tok Tok Tok = header_of conditions (rules_in conditions ws) quiet h.0.0 in
-      after_bind (optional_body token_leaves h.1) _ P (λ e. tt) (λ b is2.
-      let found = headed all head.features ts h.1 b head.stays (begins all head.features h.1.left (head.derives quiet)) (optional_body_at h.1 b is2 head.stays) in
+      read_then (optional_body_sound h.1 head.stays) (λ b body.
+      let found = headed all head.features ts h.1 b head.stays (derive all head.features h.1.left (head.derives quiet)) body in
       let noted_here : List (Noted Tok) = entries_features (recipe_content all (comment_text_of b.0.0) b.0.1) (meant ws) in
-      after_obeying (exclusion_breaks ws h.0.0.name.tok b.1.run) b.1 _ P (λ e. tt) (λ none.
-      record {
+      if_obeyed (exclusion_breaks ws h.0.0.name.tok b.1.run) b.1 _ (λ none. holds (record {
         content = recipe_content all (comment_text_of b.0.0) b.0.1;
         is = refl;
         features = head.features ++ found.features;
@@ -727,23 +612,21 @@ module _ (conditions : Conditions) where
         unbroken = rw (head.options_unbroken, head.parameters_unbroken, head.none_undefined)
             (subst (λ run. exclusion_breaks ws h.0.0.name.tok run ≡ []) found.stays.1 none);
         formed = head.stars_unbroken;
-      })))
+      }))))
 
   pub any_recipe_sound : (ws : List ReadAttribute) (n : Counters) (s : State) → Here conditions 0 s
-      → IfOk (any_recipe token_leaves token_attributes ws n s) (IsContent ws s)
+      → Holds (IsContent ws s) (any_recipe token_leaves token_attributes ws n s)
   unfolding any_recipe
   any_recipe_sound ws n s here =
-      let P : Read (WrittenItem Tok Tok ℕ Tok × Counters) → Type 0 = λ o. IfOk o (IsContent ws s) in
-      after_choose kinds.At s _ _ P
-      (λ _. recipe_sound false ws n s s.left here (λ h fs rest named. headers.loud named))
+      if_next kinds.At s _ (λ _. recipe_sound false ws n s s.left here (λ h fs rest named. headers.loud named))
       (λ sign t1 split kind. recipe_sound true ws n (at s t1) s.left here
       (λ h fs rest named. subst (λ (ts : Tokens). HeaderOf conditions h fs ts rest) (sym split) (headers.quiet kind named)))
 
   wordless_sound : (ws : List ReadAttribute) (n : Counters) (s : State) → Here conditions 0 s
-      → IfOk (without_keyword token_leaves token_attributes ws n s) (IsContent ws s)
+      → Holds (IsContent ws s) (without_keyword token_leaves token_attributes ws n s)
   unfolding without_keyword
   wordless_sound ws n s here =
-      let P : ReadItem → Type 0 = λ o. IfOk o (IsContent ws s) in
+      let P : ReadItem → Type 0 = Holds (IsContent ws s) in
       after_test (next_are token_leaves (kinds.Identifier ∷ kinds.ParenL ∷ []) s) _ _ P (λ _. function_sound ws n s here)
       (λ _. after_test (peek_assignment token_leaves s) _ _ P
       (λ _. assignment_sound false false ws n s s.left here (λ name operator us rest e fs split kind kind2 d.
@@ -751,10 +634,10 @@ module _ (conditions : Conditions) where
       (λ _. any_recipe_sound ws n s here))
 
   pub content_sound : (ws : List ReadAttribute) (n : Counters) (s : State) → Here conditions 0 s
-      → IfOk (content token_leaves token_attributes ws n s) (IsContent ws s)
+      → Holds (IsContent ws s) (content token_leaves token_attributes ws n s)
   unfolding content
   content_sound ws n s here =
-      let P : ReadItem → Type 0 = λ o. IfOk o (IsContent ws s) in
+      let P : ReadItem → Type 0 = Holds (IsContent ws s) in
       after_choose_before (codes "alias") (peek_assignment token_leaves) s _ _ P
       (after_choose_before (codes "eager") (peek_assignment token_leaves) s _ _ P
       (after_choose_before (codes "export") (peek_assignment token_leaves) s _ _ P
@@ -774,14 +657,15 @@ module _ (conditions : Conditions) where
       (λ word ts split is follows. alias_sound ws n s here word ts split is)
 
   -- the attributes before a construct
-  pub before_sound : (s : State) → Here conditions 0 s → IfOk (attributes token_leaves token_attributes s) (IsRead conditions s)
+  attributes_before : (s : State) → Here conditions 0 s → Holds (IsRead conditions s) (attributes token_leaves token_attributes s)
   unfolding attributes
-  before_sound s here =
-      let P : Read (List ReadAttribute) → Type 0 = λ o. IfOk o (IsRead conditions s) in
-      after_choose kinds.BracketL s _ _ P
-      (λ not. record { derived = record { features = []; derives = attributes_of.none not; met = nothing_met; stays = here }; means = refl; unbroken = refl })
-      (λ opener rest split kind. after_bind (read_attributes s) _ P (λ e. tt) (λ ws is.
-      after_test (stands_alone token_leaves token_attributes ws.1) _ _ P (λ _. tt) (λ _. attributes_at conditions s ws is here)))
+  attributes_before s here =
+      if_next kinds.BracketL s _ (λ not. holds (record { derived = plainly here (attributes_of.none not); means = refl; unbroken = refl }))
+      (λ opener rest split kind. read_then (attributes_sound conditions s here) (λ ws found.
+      after_test (stands_alone token_leaves token_attributes ws.1) _ _ (Holds (IsRead conditions s)) (λ _. failed) (λ _. holds found)))
+
+  pub before_sound : (s : State) → Here conditions 0 s → IfOk (attributes token_leaves token_attributes s) (IsRead conditions s)
+  before_sound s here = if_ok (attributes_before s here)
 
   -- what a construct notes
   construct_notes : (ws : List (WrittenAttribute Tok Tok)) (c : Content Tok Tok ℕ Tok) (entries : List (Entry Tok Tok)) (gs fs : List (Noted Tok))
@@ -796,8 +680,9 @@ module _ (conditions : Conditions) where
       → IsContent ws.0 ws.1 x → IsOnLine s x
   with_attributes s ws x h k =
       let a = h.derived in
-      let I : WrittenItem Tok Tok ℕ Tok → Type 0 = λ i. IsOnLine s ((i, x.0.1), x.1) in
-      subst I (sym k.is) (record {
+      let obeyed =
+      construct_obeyed conditions.current (token_view conditions) (written_in ws.0) k.content (entries_in ws.0) h.means h.unbroken k.unbroken k.formed in
+      subst (λ (i : WrittenItem Tok Tok ℕ Tok). IsOnLine s ((i, x.0.1), x.1)) (sym k.is) (record {
         derived = record {
           by_construct = record { attributes = a.features; content = k.features } ∷ [];
           derives = starts a.derives k.derives;
@@ -805,93 +690,48 @@ module _ (conditions : Conditions) where
           note = construct_notes (written_in ws.0) k.content (meant ws.0) a.features k.features (rw (h.means) refl);
           met = all_met (both_met a.met k.met);
           stays = k.stays;
+          obeys = (obeyed, tt);
         };
-        obeys = construct_obeyed conditions.current (token_view conditions) (written_in ws.0) k.content (entries_in ws.0) h.means h.unbroken k.unbroken k.formed;
+        obeys = obeyed;
       })
 
-  pub construct_sound : (n : Counters) (s : State) → Here conditions 0 s → IfOk (construct token_leaves token_attributes n s) (IsOnLine s)
+  pub construct_sound : (n : Counters) (s : State) → Here conditions 0 s → Holds (IsOnLine s) (construct token_leaves token_attributes n s)
   unfolding construct
   construct_sound n s here =
-      let P : Read (WrittenItem Tok Tok ℕ Tok × Counters) → Type 0 = λ o. IfOk o (IsOnLine s) in
-      after_bind (attributes token_leaves token_attributes s) _ P (λ e. tt) (λ ws is.
-      let read = known ws (IsRead conditions s) is (before_sound s here) in
-      weaken (content token_leaves token_attributes ws.0 n ws.1) (IsContent ws.0 ws.1) (IsOnLine s) (λ x h. with_attributes s ws x read h)
-      (content_sound ws.0 n ws.1 read.derived.stays))
+      read_then (attributes_before s here) (λ ws read. weaken (content_sound ws.0 n ws.1 read.derived.stays) (λ x h. with_attributes s ws x read h))
 
-  pub on_line_sound : (n : Counters) (s : State) → Here conditions 0 s → IfOk (any_item token_leaves token_attributes n s) (IsOnLine s)
+  pub on_line_sound : (n : Counters) (s : State) → Here conditions 0 s → Holds (IsOnLine s) (any_item token_leaves token_attributes n s)
   unfolding any_item
   on_line_sound n s here =
-      let P : Read (WrittenItem Tok Tok ℕ Tok × Counters) → Type 0 = λ o. IfOk o (IsOnLine s) in
-      after_choose kinds.Comment s _ _ P (λ _. construct_sound n s here)
-      (λ c rest split kind. record {
-        derived = record {
-          by_construct = [];
-          derives = subst (λ (ts : Tokens). Starts false (comment_item token_leaves token_attributes c) [] ts rest) (sym split) (of_comment kind);
-          features = [];
-          note = λ more cs. refl;
-          met = nothing_met;
-          stays = here;
-        };
-        obeys = comment_obeyed conditions.current (token_view conditions) (trim_end c.tok.lexeme);
-      })
+      if_next kinds.Comment s _ (λ _. construct_sound n s here)
+      (λ c rest split kind.
+      let obeyed = comment_obeyed conditions.current (token_view conditions) (trim_end c.tok.lexeme) in
+      holds (record { derived = items_begin split (bare_items here (λ more cs. refl) tt (obeyed, tt) (of_comment kind)); obeys = obeyed }))
 
   pub on_line_at : (n : Counters) (s : State) (x : (WrittenItem Tok Tok ℕ Tok × Counters) × State) → any_item token_leaves token_attributes n s ≡ Ok x
       → Here conditions 0 s → IsOnLine s x
-  on_line_at n s x is here = known x (IsOnLine s) is (on_line_sound n s here)
+  on_line_at n s x is here = held x is (on_line_sound n s here)
 
-  pub line_end_sound : (s : State) → Here conditions 0 s → IfOk (line_end token_leaves token_attributes s) (Leads LineEnd s)
+  pub line_end_sound : (s : State) → Here conditions 0 s → Holds (Leads LineEnd s) (line_end token_leaves token_attributes s)
   unfolding line_end
   line_end_sound s here =
-      let P : Read WrittenTree → Type 0 = λ o. IfOk o (Leads LineEnd s) in
-      after_choose kinds.Eof s _ _ P
-      (λ _. after_expect kinds.Eol s _ P (λ e. tt) (λ t rest split kind. record {
-        by_construct = [];
-        derives = λ more gs h. subst (LineEnd (tree.Newline ∷ more) gs) (sym split) (g.line_end kind h);
-        features = [];
-        note = λ more cs. refl;
-        met = nothing_met;
-        stays = here;
-      }))
-      (λ t rest split kind. record {
-        by_construct = [];
-        derives = λ more gs h. subst (LineEnd more gs) (sym split) (at_eof kind (subst (Items more gs) split h));
-        features = [];
-        note = λ more cs. refl;
-        met = nothing_met;
-        stays = here;
-      })
+      if_next kinds.Eof s _
+      (λ _. if_expected kinds.Eol s _ (λ t rest split kind.
+      holds (items_begin split (bare_items here (λ more cs. refl) tt a_newline (λ more gs h. g.line_end kind h)))))
+      (λ t rest split kind.
+      let derive : (more : WrittenTree) (gs : List (ConstructFeatures Tok)) → Items more gs s.left → LineEnd more gs s.left =
+      λ more gs h. subst (LineEnd more gs) (sym split) (at_eof kind (subst (Items more gs) split h)) in
+      holds (bare_items here (λ more cs. refl) tt tt derive))
 
-  pub line_end_at : (s : State) (x : WrittenTree × State) → line_end token_leaves token_attributes s ≡ Ok x → Here conditions 0 s → Leads LineEnd s x
-  line_end_at s x is here = known x (Leads LineEnd s) is (line_end_sound s here)
-
-  bare_end : (s : State) (x : WrittenTree × State) → Leads LineEnd s x → Leads ItemRest s x
-  bare_end s x h = record {
-    by_construct = h.by_construct;
-    derives = λ more gs i. g.bare (h.derives more gs i);
-    features = h.features;
-    note = h.note;
-    met = h.met;
-    stays = h.stays;
-  }
-
-  pub item_rest_sound : (s : State) → Here conditions 0 s → IfOk (after_item token_leaves token_attributes s) (Leads ItemRest s)
-  unfolding after_item
+  pub item_rest_sound : (s : State) → Here conditions 0 s → Holds (Leads ItemRest s) (after_item token_leaves token_attributes s)
+  unfolding after_item bare_items
   item_rest_sound s here =
-      let P : Read WrittenTree → Type 0 = λ o. IfOk o (Leads ItemRest s) in
-      after_choose kinds.Comment s _ _ P
-      (λ _. weaken (line_end token_leaves token_attributes s) (Leads LineEnd s) (Leads ItemRest s) (bare_end s) (line_end_sound s here))
-      (λ c rest split kind. after_bind (line_end token_leaves token_attributes (at s rest)) _ P (λ e. tt) (λ x is.
-      let found = line_end_at (at s rest) x is here in
-      record {
-        by_construct = found.by_construct;
-        derives = λ more gs i.
-            subst (ItemRest (comment_item token_leaves token_attributes c ∷ (x.0 ++ more)) (found.by_construct ++ gs)) (sym split)
-            (g.trailing kind (found.derives more gs i));
-        features = found.features;
-        note = found.note;
-        met = found.met;
-        stays = found.stays;
-      }))
+      if_next kinds.Comment s _
+      (λ _. weaken (line_end_sound s here) (λ x h. items_again h (λ more gs i. g.bare (h.derives more gs i))))
+      (λ c rest split kind. read_then (line_end_sound (at s rest) here) (λ x found.
+      let comment : DerivedItems (λ fs ts us. Unit {0}) (comment_item token_leaves token_attributes c ∷ []) s (at s rest) =
+      bare_items here (λ more cs. refl) tt (comment_obeyed conditions.current (token_view conditions) (trim_end c.tok.lexeme), tt) tt in
+      holds (items_begin split (items_followed comment found (λ more gs i. g.trailing kind (found.derives more gs i))))))
 
   -- what ends an item, before the items that may follow
   abbrev Ends : WrittenItem Tok Tok ℕ Tok → List (ConstructFeatures Tok) → Tokens → State → WrittenTree × State → Type 0
@@ -910,128 +750,55 @@ module _ (conditions : Conditions) where
       → Items items fs rest → Items (i ∷ tree.Newline ∷ items) (is ++ fs) ts
   blocks (of_block a b) h = g.block a b h
 
-  ends_line : (i : WrittenItem Tok Tok ℕ Tok) (is : List (ConstructFeatures Tok)) (ts : Tokens) (s : State) → Starts false i is ts s.left
-      → (x : WrittenTree × State) → Leads ItemRest s x → Ends i is ts s x
-  ends_line i is ts s o x h = record {
-    by_construct = h.by_construct;
-    derives = λ more gs m. stands o (h.derives more gs m);
-    features = h.features;
-    note = h.note;
-    met = h.met;
-    stays = h.stays;
-  }
-
   ends_by : (i : WrittenItem Tok Tok ℕ Tok) (is : List (ConstructFeatures Tok)) (ts : Tokens) (s : State) (b : Bool) → Here conditions 0 s → Starts b i is ts s.left
-      → IfOk (cond b (Ok (tree.Newline ∷ [], s)) (after_item token_leaves token_attributes s)) (Ends i is ts s)
-  ends_by i is ts s true here h =
-      record { by_construct = []; derives = λ more gs m. blocks h m; features = []; note = λ more cs. refl; met = nothing_met; stays = here }
-  ends_by i is ts s false here h =
-      weaken (after_item token_leaves token_attributes s) (Leads ItemRest s) (Ends i is ts s) (ends_line i is ts s h) (item_rest_sound s here)
+      → Holds (Ends i is ts s) (cond b (Ok (tree.Newline ∷ [], s)) (after_item token_leaves token_attributes s))
+  ends_by i is ts s true here h = holds (bare_items here (λ more cs. refl) tt a_newline (λ more gs m. blocks h m))
+  ends_by i is ts s false here h = weaken (item_rest_sound s here) (λ x k. items_again k (λ more gs m. stands h (k.derives more gs m)))
 
   ended_sound : (i : WrittenItem Tok Tok ℕ Tok) (is : List (ConstructFeatures Tok)) (ts : Tokens) (s : State) → Here conditions 0 s
-      → Starts (has_body i) i is ts s.left → IfOk (item_end token_leaves token_attributes (has_body i) s) (Ends i is ts s)
+      → Starts (has_body i) i is ts s.left → Holds (Ends i is ts s) (item_end token_leaves token_attributes (has_body i) s)
   unfolding item_end
   ended_sound i is ts s here h = ends_by i is ts s (has_body i) here h
 
-  pub line_sound : (n : Counters) (s : State) → Here conditions 0 s → IfOk (line token_leaves token_attributes n s) (LeadsNumbered s)
+  pub line_sound : (n : Counters) (s : State) → Here conditions 0 s → Holds (LeadsNumbered s) (line token_leaves token_attributes n s)
   unfolding line
   line_sound n s here =
-      let P : Read (WrittenTree × Counters) → Type 0 = λ o. IfOk o (LeadsNumbered s) in
-      after_choose kinds.Eol s _ _ P
-      (λ _. after_bind (any_item token_leaves token_attributes n s) _ P (λ e. tt) (λ i is.
-      after_bind (item_end token_leaves token_attributes (has_body i.0.0) i.1) _ P (λ e. tt) (λ b is2.
-      let one = (on_line_at n s i is here).derived in
-      let found = known b (Ends i.0.0 one.by_construct s.left i.1) is2 (ended_sound i.0.0 one.by_construct s.left i.1 one.stays one.derives) in
-      record {
-        by_construct = one.by_construct ++ found.by_construct;
-        derives = λ more gs m.
-            subst (λ (l : List (ConstructFeatures Tok)). Items (i.0.0 ∷ (b.0 ++ more)) l s.left) (sym (append_assoc one.by_construct found.by_construct gs))
-            (found.derives more gs m);
-        features = one.features ++ found.features;
-        note = both_note (i.0.0 ∷ []) b.0 one.by_construct found.by_construct one.features found.features one.note found.note;
-        met = joined one.met found.met (items_cook conditions.expander (i.0.0 ∷ []) b.0 one.met.cooks found.met.cooks);
-        stays = found.stays;
-      })))
-      (λ t rest split kind. record {
-        by_construct = [];
-        derives = λ more gs h. subst (Items (tree.Newline ∷ more) gs) (sym split) (g.blank kind h);
-        features = [];
-        note = λ more cs. refl;
-        met = nothing_met;
-        stays = here;
-      })
-
-  pub line_at_start : (n : Counters) (s : State) (x : (WrittenTree × Counters) × State) → line token_leaves token_attributes n s ≡ Ok x → Here conditions 0 s
-      → LeadsNumbered s x
-  line_at_start n s x is here = known x (LeadsNumbered s) is (line_sound n s here)
+      if_next kinds.Eol s _
+      (λ _. read_then (on_line_sound n s here) (λ i on_line.
+      let one = on_line.derived in
+      read_then (ended_sound i.0.0 one.by_construct s.left i.1 one.stays one.derives) (λ b found.
+      holds (items_followed one found (λ more gs m.
+      subst (λ (l : List (ConstructFeatures Tok)). Items (i.0.0 ∷ (b.0 ++ more)) l s.left) (sym (append_assoc one.by_construct found.by_construct gs))
+      (found.derives more gs m))))))
+      (λ t rest split kind. holds (items_begin split (bare_items here (λ more cs. refl) tt a_newline (λ more gs h. g.blank kind h))))
 
   last_token : (n : Counters) (s : State) (rest : Tokens) (t : SignificantToken) → Here conditions 0 s → s.left ≡ t ∷ rest → IsKind kinds.Eof t
-      → IfOk (at_end token_leaves token_attributes n (at s rest)) (ReadsWholeFile Items s)
+      → Holds (ReadsWholeFile Items s) (at_end token_leaves token_attributes n (at s rest))
   unfolding at_end
-  last_token n s [] t here split kind = record {
-    by_construct = [];
-    derives = subst (Items [] []) (sym split) (g.end kind);
-    features = [];
-    note = λ more cs. refl;
-    met = nothing_met;
-    stays = here;
-  }
-  last_token n s (u ∷ rest) t here split kind = tt
+  last_token n s [] t here split kind = holds (items_begin split (bare_items here (λ more cs. refl) tt tt (g.end kind)))
+  last_token n s (u ∷ rest) t here split kind = failed
 
   -- all that is left is read
   abbrev AllRead : Start token_leaves token_attributes → Read (WrittenTree × Counters) → Type 0
-  AllRead x found = Here conditions 0 x.1 → IfOk found (ReadsWholeFile Items x.1)
+  AllRead x found = Here conditions 0 x.1 → Holds (ReadsWholeFile Items x.1) found
 
-  rule_keeps : (f : Start token_leaves token_attributes → Read (WrittenTree × Counters)) → ((x : Start token_leaves token_attributes) → AllRead x (f x))
-      → (x : Start token_leaves token_attributes) → AllRead x (items_rule token_leaves token_attributes f x)
-  unfolding items_rule after_numbered
-  rule_keeps f h x here =
-      let P : Read (WrittenTree × Counters) → Type 0 = λ o. IfOk o (ReadsWholeFile Items x.1) in
-      after_choose kinds.Eof x.1 _ _ P
-      (λ _. after_bind (line token_leaves token_attributes x.0 x.1) _ P (λ e. tt) (λ l is. after_bind (f (l.0.1, l.1)) _ P (λ e. tt) (λ more is2.
-      let first = line_at_start x.0 x.1 l is here in
-      let rest = known more (ReadsWholeFile Items l.1) is2 (h (l.0.1, l.1) first.stays) in
-      record {
-        by_construct = first.by_construct ++ rest.by_construct;
-        derives = first.derives more.0.0 rest.by_construct rest.derives;
-        features = first.features ++ rest.features;
-        note = both_note l.0.0 more.0.0 first.by_construct rest.by_construct first.features rest.features first.note rest.note;
-        met = joined first.met rest.met (items_cook conditions.expander l.0.0 more.0.0 first.met.cooks rest.met.cooks);
-        stays = rest.stays;
-      })))
-      (λ t rest split kind. last_token x.0 x.1 rest t here split kind)
-
-  pub items_sound : (n : Counters) (s : State) → Here conditions 0 s → IfOk (items token_leaves token_attributes n s) (ReadsWholeFile Items s)
-  unfolding items_from
+  pub items_sound : (n : Counters) (s : State) → Here conditions 0 s → Holds (ReadsWholeFile Items s) (items token_leaves token_attributes n s)
+  unfolding items_from items_rule after_numbered
   items_sound n s =
-      recursive_keeps (λ (x : Start token_leaves token_attributes). length x.1.left) (no_items token_leaves token_attributes)
-      (items_rule token_leaves token_attributes) AllRead (λ x here. tt) rule_keeps (n, s)
-
-  unmarked_file : (s : State) (x : (WrittenTree × Counters) × State) → ReadsWholeFile Items s x → ReadsWholeFile File s x
-  unmarked_file s x h =
-      record { by_construct = h.by_construct; derives = g.without_byte_order_mark h.derives; features = h.features; note = h.note; met = h.met; stays = h.stays }
-
-  marked_file : (s : State) (rest : Tokens) (t : SignificantToken) → s.left ≡ t ∷ rest → IsKind kinds.ByteOrderMark t
-      → (x : (WrittenTree × Counters) × State) → ReadsWholeFile Items (at s rest) x → ReadsWholeFile File s x
-  marked_file s rest t split kind x h = record {
-    by_construct = h.by_construct;
-    derives = subst (File x.0.0 h.by_construct) (sym split) (g.with_byte_order_mark kind h.derives);
-    features = h.features;
-    note = h.note;
-    met = h.met;
-    stays = h.stays;
-  }
+      loop_has (λ x. x.1) (items_rule token_leaves token_attributes) AllRead (λ x here. failed) (λ f h x here.
+      if_next kinds.Eof x.1 _
+      (λ _. read_then (line_sound x.0 x.1 here) (λ l first. read_then (h (l.0.1, l.1) first.stays) (λ more rest.
+      holds (items_followed first rest (first.derives more.0.0 rest.by_construct rest.derives)))))
+      (λ t rest split kind. last_token x.0 x.1 rest t here split kind)) (n, s)
 
   whole_file : (ts : Tokens)
-      → IfOk (reader.file token_leaves token_attributes unnumbered (start_state conditions ts)) (ReadsWholeFile File (start_state conditions ts))
+      → Holds (ReadsWholeFile File (start_state conditions ts)) (reader.file token_leaves token_attributes unnumbered (start_state conditions ts))
   unfolding reader.file
   whole_file ts =
       let s : State = start_state conditions ts in
-      let P : Read (WrittenTree × Counters) → Type 0 = λ o. IfOk o (ReadsWholeFile File s) in
-      after_choose kinds.ByteOrderMark s s (λ mark. mark.1) (λ (t : State). P (items token_leaves token_attributes unnumbered t))
-      (λ _. weaken (items token_leaves token_attributes unnumbered s) (ReadsWholeFile Items s) (ReadsWholeFile File s) (unmarked_file s) (items_sound unnumbered s (refl, refl)))
-      (λ t rest split kind. weaken (items token_leaves token_attributes unnumbered (at s rest)) (ReadsWholeFile Items (at s rest)) (ReadsWholeFile File s)
-      (marked_file s rest t split kind) (items_sound unnumbered (at s rest) (refl, refl)))
+      after_choose kinds.ByteOrderMark s s (λ mark. mark.1) (λ (t : State). Holds (ReadsWholeFile File s) (items token_leaves token_attributes unnumbered t))
+      (λ _. weaken (items_sound unnumbered s (refl, refl)) (λ x h. items_again h (g.without_byte_order_mark h.derives)))
+      (λ t rest split kind. weaken (items_sound unnumbered (at s rest) (refl, refl)) (λ x h. items_begin split (items_again h (g.with_byte_order_mark kind h.derives))))
 
   -- the features of a file are all that were noted
   all_noted : (items : WrittenTree) (bs : List (ConstructFeatures Tok)) (fs : List (Noted Tok)) → Note items bs fs → fs ≡ all_features (token_view conditions) items bs
@@ -1039,17 +806,16 @@ module _ (conditions : Conditions) where
       sym (append-nil fs) ∙ sym (h [] []) ∙ ap (λ l. all_features (token_view conditions) l (bs ++ [])) (append-nil items)
       ∙ ap (λ l. all_features (token_view conditions) items l) (append-nil bs)
 
-  pub file_sound : (ts : Tokens) → IfOk (tree_of_tokens conditions ts) (IsFile ts)
+  pub file_sound : (ts : Tokens) → Holds (IsFile ts) (tree_of_tokens conditions ts)
   unfolding tree_of_tokens
   file_sound ts =
-      after_bind (reader.file token_leaves token_attributes unnumbered (start_state conditions ts)) _ (λ o. IfOk o (IsFile ts)) (λ e. tt) (λ x is.
-      let found = known x (ReadsWholeFile File (start_state conditions ts)) is (whole_file ts) in
-      record {
+      read_then (whole_file ts) (λ x found. holds (record {
         by_construct = found.by_construct;
         derives = found.derives;
         features_are = found.met.noted_is ∙ all_noted x.0.0 found.by_construct found.features found.note;
         cooks = found.met.cooks;
-      })
+        obeys = found.obeys;
+      }))
 
   pub file_at : (ts : Tokens) (x : WrittenTree × List (Noted Tok)) → tree_of_tokens conditions ts ≡ Ok x → IsFile ts x
-  file_at ts x is = known x (IsFile ts) is (file_sound ts)
+  file_at ts x is = held x is (file_sound ts)

@@ -1,5 +1,6 @@
 -- Parts of items that are parsed derive. Their literals have texts, and the value of a setting breaks no rule.
-use Rattle.std.proofs.Common.{◌≡◌, ℕ, Bool, true, false, ◌||◌, ◌+◌, ◌⊎◌, inl, inr, List, [], ◌∷◌, length, Option, Some, None, Ok, Err, IfOk, codes, refl, sym, subst, ◌∙◌}
+use Rattle.std.proofs.Common.{◌≡◌, ℕ, Bool, true, false, ◌+◌, ◌⊎◌, inl, inr, List, [], ◌∷◌, Option, Some, None, Ok, codes, refl, sym, ap, subst, ◌∙◌}
+use Rattle.std.proofs.lemmas.Bool.{or_parts}
 use Rattle.justfile_vocabulary.specs.Keyword.{keyword_named, keyword_text}
 use Rattle.justfile_vocabulary.specs.declared.keyword.Keyword.{Keyword}
 use Rattle.justfile_vocabulary.specs.declared.token_kind.TokenKind.{TokenKind}
@@ -11,7 +12,7 @@ use Rattle.justfile_model.specs.Readers.ExpressionReader as expressions
 use Rattle.justfile_model.specs.Readers.ExpressionReader.{cooked, is_within}
 use Rattle.justfile_model.specs.Grammars.Expressions.{Tokens, IsKind, IsWord, NotNext, BelowLimit}
 use Rattle.justfile_model.specs.Grammars.Files.{quoted_literals, setting_literals}
-use Rattle.justfile_model.specs.Readers.HeaderReader.{next_binding_number, expression}
+use Rattle.justfile_model.specs.Readers.HeaderReader.{next_binding_number}
 use Rattle.justfile_model.specs.Grammars.ItemParts as g
 use Rattle.justfile_model.specs.Grammars.ItemParts.{EndsLine, FilePath, Names, NoPath, NotNamedString, ValueOf}
 use Rattle.justfile_model.specs.LiteralTexts.Literals.{string_of}
@@ -26,26 +27,17 @@ use Rattle.justfile_model.specs.Lexing.SignificantTokens.{SignificantToken}
 use Rattle.justfile_model.specs.Lexing.Tok.{Tok}
 use Rattle.justfile_model.specs.Trees.Tree as tree
 use Rattle.justfile_model.specs.Trees.Tree.{Expr, Exprs, Quoted, SettingValue, itself}
-use Rattle.justfile_model.specs.Readers.TreeReader.{Read, ReadError, State, Taken, token_leaves}
+use Rattle.justfile_model.specs.Readers.TreeReader.{Read, State, Taken, token_leaves}
 use Rattle.justfile_model.proofs.Sound.ExpressionSound as e
-use Rattle.justfile_model.proofs.Sound.ExpressionSound.{Derived, DerivesAll, Here, after_cooked, expression_derives}
-use Rattle.justfile_model.proofs.Sound.HeaderSound.{Passed, after_obeying, is_left}
-use Rattle.justfile_model.proofs.Readers.Meets.{Met, literal_met, nothing_met}
-use Rattle.justfile_model.proofs.Readers.ReadingSteps.{after_test, known}
-use Rattle.justfile_model.proofs.Readers.Steps.{AreNext, after_bind, after_choose, after_expect, after_word, are_next, next_taken, word_is}
-use Rattle.justfile_model.proofs.Lists.Turns.{recursive_keeps}
-
-true_not_false : (b : Bool) → b ≡ true → b ≡ false → ⊥
-true_not_false b h k = cc
+use Rattle.justfile_model.proofs.Sound.ExpressionSound.{Derived, DerivesAll, Here, after_cooked, again, begins, plainly}
+use Rattle.justfile_model.proofs.Sound.HeaderSound.{Passed, if_obeyed, is_left, passed, passing}
+use Rattle.justfile_model.proofs.Readers.Meets.{Met, literal_met}
+use Rattle.justfile_model.proofs.Readers.ReadingSteps.{after_test, loop_has}
+use Rattle.justfile_model.proofs.Readers.Steps.{AreNext, Holds, after_choose, after_expect, after_word, are_next, failed, holds, if_expected, if_next, next_taken, of_ok, one_of, read_then, true_not_false, weaken, word_is}
 
 -- no tokens of these kinds come next
 pub not_next : (kinds : List TokenKind) (s : State) → next_are token_leaves kinds s ≡ false → AreNext kinds s.left → ⊥
 not_next kinds s h is = true_not_false (next_are token_leaves kinds s) (next_taken kinds s is) h
-
-pub neither : (a b : Bool) → (a || b) ≡ false → (a ≡ false) × (b ≡ false)
-neither true b h = cc
-neither false true h = cc
-neither false false h = (refl, refl)
 
 -- ---- what follows a word
 
@@ -59,18 +51,10 @@ ends_after kind end (inr (inr is)) t (u ∷ ts) h = g.at_file_end (h.1.0 ∙ is)
 -- a name, and then the line ends
 pub line_ends : (s : State) (t : SignificantToken) (ts : Tokens) → s.left ≡ t ∷ ts → r.line_is token_leaves (kinds.Identifier ∷ []) s ≡ true → EndsLine ts
 line_ends s t ts split h =
-    go (next_are token_leaves (kinds.Identifier ∷ kinds.Comment ∷ []) s) (next_are token_leaves (kinds.Identifier ∷ kinds.Eol ∷ []) s)
-    (next_are token_leaves (kinds.Identifier ∷ kinds.Eof ∷ []) s) refl refl refl h
+    one_of _ _ h (λ h. one_of _ _ h (there kinds.Comment (inl refl)) (there kinds.Eol (inr (inl refl)))) (there kinds.Eof (inr (inr refl)))
   where
     there : (end : TokenKind) → (end ≡ kinds.Comment) ⊎ (end ≡ kinds.Eol) ⊎ (end ≡ kinds.Eof) → next_are token_leaves (kinds.Identifier ∷ end ∷ []) s ≡ true → EndsLine ts
     there end o is = ends_after kinds.Identifier end o t ts (subst (AreNext (kinds.Identifier ∷ end ∷ [])) split (are_next (kinds.Identifier ∷ end ∷ []) s is))
-
-    go : (a b c : Bool) → next_are token_leaves (kinds.Identifier ∷ kinds.Comment ∷ []) s ≡ a → next_are token_leaves (kinds.Identifier ∷ kinds.Eol ∷ []) s ≡ b
-        → next_are token_leaves (kinds.Identifier ∷ kinds.Eof ∷ []) s ≡ c → (a || b || c) ≡ true → EndsLine ts
-    go true b c x y z h = there kinds.Comment (inl refl) x
-    go false true c x y z h = there kinds.Eol (inr (inl refl)) y
-    go false false true x y z h = there kinds.Eof (inr (inr refl)) z
-    go false false false x y z h = cc
 
 -- a word that comes next before what goes with it, or none
 pub after_choose_before : {A : Type 0} (word : List ℕ) (follows : State → Bool) (s : State) (x : A) (f : SignificantToken × State → A) (P : A → Type 0) → P x
@@ -83,13 +67,13 @@ after_choose_before {A} word follows s x f P otherwise goes =
     (λ t ts split is. after_test (follows (at s ts)) _ _ Q (λ e. goes t ts split is e) (λ _. otherwise))
 
 -- the keyword that a name spells, or an error
-pub after_keyword : {X : Type 0} (name : SignificantToken) (s : State) (f : Keyword × State → Read X) (P : Read X → Type 0) → ((e : ReadError) → P (Err e))
-    → ((k : Keyword) → name.tok.lexeme ≡ keyword_text k → P (f (k, s))) → P (r.setting_keyword token_leaves name s >>= f)
+pub after_keyword : {X : Type 0} {P : X × State → Type 0} (name : SignificantToken) (s : State) (f : Keyword × State → Read X)
+    → ((k : Keyword) → name.tok.lexeme ≡ keyword_text k → Holds P (f (k, s))) → Holds P (r.setting_keyword token_leaves name s >>= f)
 unfolding r.setting_keyword
-after_keyword {X} name s f P fails goes = go (keyword_named name.tok.lexeme) refl
+after_keyword {X} {P} name s f goes = go (keyword_named name.tok.lexeme) refl
   where
-    go : (o : Option Keyword) → keyword_named name.tok.lexeme ≡ o → P (r.keyword_or_none token_leaves name s o >>= f)
-    go None e = fails _
+    go : (o : Option Keyword) → keyword_named name.tok.lexeme ≡ o → Holds P (r.keyword_or_none token_leaves name s o >>= f)
+    go None e = failed
     go (Some k) e = goes k (spells name.tok.lexeme k e)
 
 module _ (conditions : Conditions) where
@@ -100,12 +84,11 @@ module _ (conditions : Conditions) where
     no_mark : IsMark s (false, s)
     a_mark : {t : SignificantToken} {ts : Tokens} → s.left ≡ t ∷ ts → IsWord (codes "x") t → IsMark s (true, at s ts)
 
-  mark_sound : (s : State) → IfOk (r.expansion_mark token_leaves s) (IsMark s)
+  mark_sound : (s : State) → Holds (IsMark s) (r.expansion_mark token_leaves s)
   unfolding r.expansion_mark
   mark_sound s =
-      let P : Read Bool → Type 0 = λ o. IfOk o (IsMark s) in
-      after_choose kinds.Identifier s _ _ P (λ _. no_mark)
-      (λ t ts split kind. after_test (is_word (codes "x") t) _ _ P (λ is. a_mark split (word_is (codes "x") t is)) (λ _. tt))
+      if_next kinds.Identifier s _ (λ _. holds no_mark)
+      (λ t ts split kind. after_test (is_word (codes "x") t) _ _ (Holds (IsMark s)) (λ is. holds (a_mark split (word_is (codes "x") t is))) (λ _. failed))
 
   -- a path that was read, and the token of its literal
   pub record IsFilePath (s : State) (x : (SignificantToken × Quoted Tok) × State) : Type 0 where
@@ -121,37 +104,29 @@ module _ (conditions : Conditions) where
     path ← cooked token_leaves (r.quoted_of token_leaves mark.0) (string_of mark.0) literal
     r.path_at token_leaves literal.0 path
 
-  marked_sound : (s : State) (mark : Bool × State) → Here conditions 0 s → IsMark s mark → IfOk (after_mark mark) (IsFilePath s)
+  marked_sound : (s : State) (mark : Bool × State) → Here conditions 0 s → IsMark s mark → Holds (IsFilePath s) (after_mark mark)
   marked_sound s mark here no_mark =
-      let P : Read (SignificantToken × Quoted Tok) → Type 0 = λ o. IfOk o (IsFilePath s) in
-      after_expect kinds.StringToken s _ P (λ e. tt) (λ t ts split kind.
-      let Q : Read (Quoted Tok) → Type 0 = λ o. P (o >>= r.path_at token_leaves t) in
-      after_cooked conditions (r.quoted_of token_leaves false) (string_of false) t (at s ts) Q here.1 (λ fault. tt) (λ text is. record {
+      if_expected kinds.StringToken s _ (λ t ts split kind.
+      let Q : Read (Quoted Tok) → Type 0 = λ o. Holds (IsFilePath s) (o >>= r.path_at token_leaves t) in
+      after_cooked conditions (r.quoted_of token_leaves false) (string_of false) t (at s ts) Q here.1 (λ fault. failed) (λ text is. holds (record {
         derives = subst (λ (l : Tokens). FilePath itself (r.quoted_of token_leaves false t.tok) l ts) (sym split) (g.plain kind);
         token_is = refl;
         met = literal_met (record { text = text; is = is });
         stays = here;
-      }))
+      })))
   marked_sound s mark here (a_mark {t = m} {ts = us} split0 is_x) =
-      let P : Read (SignificantToken × Quoted Tok) → Type 0 = λ o. IfOk o (IsFilePath s) in
-      after_expect kinds.StringToken (at s us) _ P (λ e. tt) (λ t ts split kind.
-      let Q : Read (Quoted Tok) → Type 0 = λ o. P (o >>= r.path_at token_leaves t) in
-      let R : Tokens → Type 0 = λ l. FilePath itself (r.quoted_of token_leaves true t.tok) l ts in
-      after_cooked conditions (r.quoted_of token_leaves true) (string_of true) t (at s ts) Q here.1 (λ fault. tt) (λ text is. record {
-        derives = subst R (sym split0) (subst (λ (l : Tokens). R (m ∷ l)) (sym split) (g.expanded is_x kind));
+      if_expected kinds.StringToken (at s us) _ (λ t ts split kind.
+      let Q : Read (Quoted Tok) → Type 0 = λ o. Holds (IsFilePath s) (o >>= r.path_at token_leaves t) in
+      after_cooked conditions (r.quoted_of token_leaves true) (string_of true) t (at s ts) Q here.1 (λ fault. failed) (λ text is. holds (record {
+        derives = subst (λ (l : Tokens). FilePath itself (r.quoted_of token_leaves true t.tok) l ts) (sym (split0 ∙ ap (λ (l : Tokens). m ∷ l) split)) (g.expanded is_x kind);
         token_is = refl;
         met = literal_met (record { text = text; is = is });
         stays = here;
-      }))
+      })))
 
-  pub file_path_sound : (s : State) → Here conditions 0 s → IfOk (r.file_path token_leaves s) (IsFilePath s)
+  pub file_path_sound : (s : State) → Here conditions 0 s → Holds (IsFilePath s) (r.file_path token_leaves s)
   unfolding r.file_path
-  file_path_sound s here =
-      let P : Read (SignificantToken × Quoted Tok) → Type 0 = λ o. IfOk o (IsFilePath s) in
-      after_bind (r.expansion_mark token_leaves s) _ P (λ e. tt) (λ mark is. marked_sound s mark here (known mark (IsMark s) is (mark_sound s)))
-
-  pub file_path_at : (s : State) (x : (SignificantToken × Quoted Tok) × State) → r.file_path token_leaves s ≡ Ok x → Here conditions 0 s → IsFilePath s x
-  file_path_at s x is here = known x (IsFilePath s) is (file_path_sound s here)
+  file_path_sound s here = read_then (mark_sound s) (λ mark is. marked_sound s mark here is)
 
   -- no string comes next after a name
   not_named : (ts : Tokens) → (AreNext (kinds.Identifier ∷ kinds.StringToken ∷ []) ts → ⊥) → NotNamedString ts
@@ -161,7 +136,7 @@ module _ (conditions : Conditions) where
 
   pub no_path : (s : State) → r.begins_path token_leaves s ≡ false → NoPath s.left
   no_path s h =
-      let parts = neither (next_are token_leaves (kinds.StringToken ∷ []) s) (next_are token_leaves (kinds.Identifier ∷ kinds.StringToken ∷ []) s) h in
+      let parts = or_parts (next_are token_leaves (kinds.StringToken ∷ []) s) (next_are token_leaves (kinds.Identifier ∷ kinds.StringToken ∷ []) s) h in
       record {
         unmarked = is_left kinds.StringToken s parts.0;
         marked = not_named s.left (not_next (kinds.Identifier ∷ kinds.StringToken ∷ []) s parts.1);
@@ -172,13 +147,12 @@ module _ (conditions : Conditions) where
     without_path : NoPath s.left → IsOptionalPath s (None, s)
     with_path : {x : (SignificantToken × Quoted Tok) × State} → IsFilePath s x → IsOptionalPath s (Some x.0.1, x.1)
 
-  pub optional_path_sound : (s : State) → Here conditions 0 s → IfOk (r.optional_path token_leaves s) (IsOptionalPath s)
+  pub optional_path_sound : (s : State) → Here conditions 0 s → Holds (IsOptionalPath s) (r.optional_path token_leaves s)
   unfolding r.optional_path
   optional_path_sound s here =
-      let P : Read (Option (Quoted Tok)) → Type 0 = λ o. IfOk o (IsOptionalPath s) in
-      after_test (r.begins_path token_leaves s) _ _ P
-      (λ _. after_bind (r.file_path token_leaves s) _ P (λ e. tt) (λ path is. with_path (file_path_at s path is here)))
-      (λ h. without_path (no_path s h))
+      after_test (r.begins_path token_leaves s) _ _ (Holds (IsOptionalPath s))
+      (λ _. read_then (file_path_sound s here) (λ path found. holds (with_path found)))
+      (λ h. holds (without_path (no_path s h)))
 
   -- ---- the parameters of functions
 
@@ -189,43 +163,26 @@ module _ (conditions : Conditions) where
   IsNames x y = Passed conditions (Names itself y.0.0) x.1 y.1
 
   abbrev AllNames : NamesPlace → Read (List Tok × Counters) → Type 0
-  AllNames x found = Here conditions 0 x.1 → IfOk found (IsNames x)
+  AllNames x found = Here conditions 0 x.1 → Holds (IsNames x) found
 
-  names_keep : (f : NamesPlace → Read (List Tok × Counters)) → ((x : NamesPlace) → AllNames x (f x)) → (x : NamesPlace) → AllNames x (r.names_rule token_leaves f x)
-  unfolding r.names_rule r.numbered_name r.names_end next_binding_number after_numbered
-  names_keep f h x here =
-      let P : Read (List Tok × Counters) → Type 0 = λ o. IfOk o (IsNames x) in
-      after_choose kinds.ParenR x.1 _ _ P
+  pub names_sound : (x : NamesPlace) → Here conditions 0 x.1 → Holds (IsNames x) (r.names token_leaves x)
+  unfolding r.names r.names_rule r.numbered_name r.names_end next_binding_number after_numbered
+  names_sound =
+      loop_has (λ x. x.1) (r.names_rule token_leaves) AllNames (λ x here. failed) (λ f h x here.
+      let P : Read (List Tok × Counters) → Type 0 = Holds (IsNames x) in
+      if_next kinds.ParenR x.1 _
       (λ _. after_expect kinds.Identifier x.1 (λ name. next_binding_number token_leaves x.0 name.1 >>= λ number. Ok ((name.0.tok, number.0.1), number.1))
       (λ o. P (o >>= λ name. after_numbered (name.0.0 ∷ [])
       (choose (accept token_leaves kinds.Comma name.1) (r.names_end token_leaves name.0.1 name.1) (λ comma. f (name.0.1, comma.1)))))
-      (λ e. tt) (λ name ts split kind.
+      (λ e. failed) (λ name ts split kind.
       let n : Counters = record { bindings = x.0.bindings + 1; constants = x.0.constants; recipes = x.0.recipes } in
-      let R : List Tok → Tokens → Tokens → Type 0 = λ names l rest. Names itself names l rest in
-      let Q : Read (List Tok × Counters) → Type 0 = λ o. P (after_numbered (name.tok ∷ []) o) in
-      after_choose kinds.Comma (at x.1 ts) _ _ Q
-      (λ _. after_expect kinds.ParenR (at x.1 ts) _ Q (λ e. tt) (λ closer us split2 kind2. record {
-        derives = subst (λ (l : Tokens). R (name.tok ∷ []) l us) (sym split) (subst (λ (l : Tokens). R (name.tok ∷ []) (name ∷ l) us) (sym split2) (g.last kind kind2));
-        noted_is = refl;
-        stays = here;
-      }))
-      (λ comma us split2 kind2. after_bind (f (n, at x.1 us)) _ P (λ e. tt) (λ more is.
-      let rest = known more (IsNames (n, at x.1 us)) is (h (n, at x.1 us) here) in
-      let all : List Tok = name.tok ∷ more.0.0 in
-      record {
-        derives = subst (λ (l : Tokens). R all l more.1.left) (sym split) (subst (λ (l : Tokens). R all (name ∷ l) more.1.left) (sym split2) (g.more kind kind2 rest.derives));
-        noted_is = rest.noted_is;
-        stays = rest.stays;
-      }))))
-      (λ closer ts split kind. record { derives = subst (λ (l : Tokens). Names itself [] l ts) (sym split) (g.none kind); noted_is = refl; stays = here })
-
-  pub names_sound : (x : NamesPlace) → Here conditions 0 x.1 → IfOk (r.names token_leaves x) (IsNames x)
-  unfolding r.names
-  names_sound =
-      recursive_keeps (λ (x : NamesPlace). length x.1.left) (r.no_names token_leaves) (r.names_rule token_leaves) AllNames (λ x here. tt) names_keep
-
-  pub names_at : (x : NamesPlace) (y : (List Tok × Counters) × State) → r.names token_leaves x ≡ Ok y → Here conditions 0 x.1 → IsNames x y
-  names_at x y is here = known y (IsNames x) is (names_sound x here)
+      let after = λ (l : Tokens). name ∷ l in
+      after_choose kinds.Comma (at x.1 ts) _ _ (λ o. P (after_numbered (name.tok ∷ []) o))
+      (λ _. after_expect kinds.ParenR (at x.1 ts) _ (λ o. P (after_numbered (name.tok ∷ []) o)) (λ e. failed) (λ closer us split2 kind2.
+      holds (passed conditions here (split ∙ ap after split2) (g.last kind kind2))))
+      (λ comma us split2 kind2. read_then (h (n, at x.1 us) here) (λ more rest.
+      holds (passing conditions (split ∙ ap after split2) rest (g.more kind kind2 rest.derives))))))
+      (λ closer ts split kind. holds (passed conditions here split (g.none kind))))
 
   -- ---- settings
 
@@ -235,73 +192,44 @@ module _ (conditions : Conditions) where
 
   -- `:=` and a word
   truth_of_sound : (s : State) (operator : SignificantToken) (ts : Tokens) → Here conditions 0 s → s.left ≡ operator ∷ ts → IsKind kinds.ColonEquals operator
-      → (word : SignificantToken) (us : Tokens) → ts ≡ word ∷ us → IfOk (r.truth_of token_leaves (word, at s us)) (IsValue TruthForm s)
+      → (word : SignificantToken) (us : Tokens) → ts ≡ word ∷ us → Holds (IsValue TruthForm s) (r.truth_of token_leaves (word, at s us))
   unfolding r.truth_of
   truth_of_sound s operator ts here split kind word us split2 =
-      let P : Read (SettingValue Tok Tok) → Type 0 = λ o. IfOk o (IsValue TruthForm s) in
-      let R : Bool → Tokens → Type 0 = λ b l. ValueOf itself itself (BelowLimit conditions.limit) TruthForm (tree.Truth b) [] l us in
-      after_test (is_word (codes "true") word) _ _ P
-      (λ is. record {
-        features = [];
-        derives = subst (R true) (sym split) (subst (λ (l : Tokens). R true (operator ∷ l)) (sym split2) (g.yes kind (word_is (codes "true") word is)));
-        met = nothing_met;
-        stays = here;
-      })
-      (λ _. after_test (is_word (codes "false") word) _ _ P
-      (λ is. record {
-        features = [];
-        derives = subst (R false) (sym split) (subst (λ (l : Tokens). R false (operator ∷ l)) (sym split2) (g.no kind (word_is (codes "false") word is)));
-        met = nothing_met;
-        stays = here;
-      })
-      (λ _. tt))
+      let P : Read (SettingValue Tok Tok) → Type 0 = Holds (IsValue TruthForm s) in
+      let start : s.left ≡ operator ∷ word ∷ us = split ∙ ap (λ (l : Tokens). operator ∷ l) split2 in
+      after_test (is_word (codes "true") word) _ _ P (λ is. holds (begins start (plainly here (g.yes kind (word_is (codes "true") word is)))))
+      (λ _. after_test (is_word (codes "false") word) _ _ P (λ is. holds (begins start (plainly here (g.no kind (word_is (codes "false") word is))))) (λ _. failed))
 
   -- where the line ends if no `:=` comes next
-  pub truth_sound : (s : State) → Here conditions 0 s → (NotNext kinds.ColonEquals s.left → EndsLine s.left) → IfOk (r.truth token_leaves s) (IsValue TruthForm s)
+  pub truth_sound : (s : State) → Here conditions 0 s → (NotNext kinds.ColonEquals s.left → EndsLine s.left) → Holds (IsValue TruthForm s) (r.truth token_leaves s)
   unfolding r.truth
   truth_sound s here ends =
-      let P : Read (SettingValue Tok Tok) → Type 0 = λ o. IfOk o (IsValue TruthForm s) in
-      after_choose kinds.ColonEquals s _ _ P
-      (λ not. record { features = []; derives = g.bare (ends not); met = nothing_met; stays = here })
-      (λ operator ts split kind. after_expect kinds.Identifier (at s ts) _ P (λ e. tt)
-      (λ word us split2 kind2. truth_of_sound s operator ts here split kind word us split2))
+      if_next kinds.ColonEquals s _ (λ not. holds (plainly here (g.bare (ends not))))
+      (λ operator ts split kind. if_expected kinds.Identifier (at s ts) _ (λ word us split2 kind2. truth_of_sound s operator ts here split kind word us split2))
 
   -- expressions in brackets, after `:=`
   command_sound : (s : State) (operator opener : SignificantToken) (ts us : Tokens) → s.left ≡ operator ∷ ts → IsKind kinds.ColonEquals operator → ts ≡ opener ∷ us
       → IsKind kinds.BracketL opener → (es : Exprs Tok Tok) (rest : State) → DerivesAll conditions kinds.BracketR 0 (at s us) (es, rest)
-      → IfOk (r.some_command token_leaves (at s us) (es, rest)) (IsValue InterpreterForm s)
+      → Holds (IsValue InterpreterForm s) (r.some_command token_leaves (at s us) (es, rest))
   command_sound s operator opener ts us split kind split2 kind2 tree.none rest h =
-      after_test (is_within (token_leaves.conditions s.run).limit levels.Expression (at s us)) _ _ (λ (o : Read (SettingValue Tok Tok)). IfOk o (IsValue InterpreterForm s)) (λ _. tt) (λ _. tt)
+      after_test (is_within (token_leaves.conditions s.run).limit levels.Expression (at s us)) _ _ (Holds (IsValue InterpreterForm s)) (λ _. failed) (λ _. failed)
   command_sound s operator opener ts us split kind split2 kind2 (tree.more first others) rest h =
-      let R : Tokens → Type 0 = λ l. ValueOf itself itself (BelowLimit conditions.limit) InterpreterForm (tree.Interpreter first others) h.features l rest.left in
-      record {
-        features = h.features;
-        derives = subst R (sym split) (subst (λ (l : Tokens). R (operator ∷ l)) (sym split2) (g.interpreter kind kind2 h.derives));
-        met = h.met;
-        stays = h.stays;
-      }
+      holds (begins (split ∙ ap (λ (l : Tokens). operator ∷ l) split2) (again h (g.interpreter kind kind2 h.derives)))
 
   interpreter_sound : (s : State) (operator : SignificantToken) (ts : Tokens) → Here conditions 0 s → s.left ≡ operator ∷ ts → IsKind kinds.ColonEquals operator
-      → IfOk (r.interpreter token_leaves (at s ts)) (IsValue InterpreterForm s)
+      → Holds (IsValue InterpreterForm s) (r.interpreter token_leaves (at s ts))
   unfolding r.interpreter
   interpreter_sound s operator ts here split kind =
-      let P : Read (SettingValue Tok Tok) → Type 0 = λ o. IfOk o (IsValue InterpreterForm s) in
-      after_expect kinds.BracketL (at s ts) _ P (λ e. tt) (λ opener us split2 kind2.
-      after_bind (expressions.read token_leaves (expressions.Sequence kinds.BracketR (at s us))) _ P (λ e. tt) (λ es is.
-      command_sound s operator opener ts us split kind split2 kind2 es.0 es.1
-      (known es (DerivesAll conditions kinds.BracketR 0 (at s us)) is (e.sound conditions (expressions.Sequence kinds.BracketR (at s us)) 0 here))))
+      if_expected kinds.BracketL (at s ts) _ (λ opener us split2 kind2.
+      read_then (of_ok (expressions.read token_leaves (expressions.Sequence kinds.BracketR (at s us))) (e.sound conditions (expressions.Sequence kinds.BracketR (at s us)) 0 here)) (λ es h.
+      command_sound s operator opener ts us split kind split2 kind2 es.0 es.1 h))
 
   expression_sound : (s : State) (operator : SignificantToken) (ts : Tokens) → Here conditions 0 s → s.left ≡ operator ∷ ts → IsKind kinds.ColonEquals operator
-      → IfOk (r.expression_value token_leaves (at s ts)) (λ x. IsValue ExpressionForm s x × IsValue PlainForm s x)
+      → Holds (λ x. IsValue ExpressionForm s x × IsValue PlainForm s x) (r.expression_value token_leaves (at s ts))
   unfolding r.expression_value
   expression_sound s operator ts here split kind =
-      let Both : SettingValue Tok Tok × State → Type 0 = λ x. IsValue ExpressionForm s x × IsValue PlainForm s x in
-      after_bind (expression token_leaves (at s ts)) _ (λ o. IfOk o Both) (λ e. tt) (λ e is.
-      let found = expression_derives conditions false 0 (at s ts) e is here in
-      let R : SettingForm → Tokens → Type 0 = λ form l. ValueOf itself itself (BelowLimit conditions.limit) form (tree.Value e.0) found.features l e.1.left in (
-        record { features = found.features; derives = subst (R ExpressionForm) (sym split) (g.expression kind found.derives); met = found.met; stays = found.stays },
-        record { features = found.features; derives = subst (R PlainForm) (sym split) (g.plain kind found.derives); met = found.met; stays = found.stays },
-      ))
+      read_then (e.expression_sound conditions (at s ts) here) (λ x found.
+      holds (begins split (again found (g.expression kind found.derives)), begins split (again found (g.plain kind found.derives))))
 
   module _ (name : SignificantToken) (keyword : Keyword) where
     -- what this value breaks
@@ -313,49 +241,31 @@ module _ (conditions : Conditions) where
       pub unbroken : breaks form x.0 ≡ []
 
     plain_sound : (s : State) (operator : SignificantToken) (ts : Tokens) → Here conditions 0 s → s.left ≡ operator ∷ ts → IsKind kinds.ColonEquals operator
-        → IfOk (r.plain_value token_leaves token_view name keyword (at s ts)) (IsSet PlainForm s)
+        → Holds (IsSet PlainForm s) (r.plain_value token_leaves token_view name keyword (at s ts))
     unfolding r.plain_value
     plain_sound s operator ts here split kind =
-        let P : Read (SettingValue Tok Tok) → Type 0 = λ o. IfOk o (IsSet PlainForm s) in
-        let Both : SettingValue Tok Tok × State → Type 0 = λ x. IsValue ExpressionForm s x × IsValue PlainForm s x in
         let rules : Conditions → SettingValue Tok Tok → List (Broken Tok) = λ run value. value_broken run.current (token_view run) (Some PlainForm) keyword name.tok value in
-        after_bind (r.expression_value token_leaves (at s ts)) _ P (λ e. tt) (λ value is.
-        let found = (known value Both is (expression_sound s operator ts here split kind)).1 in
-        after_obeying (rules value.1.run value.0) value.1 _ P (λ e. tt) (λ none.
-        record { derived = found; unbroken = subst (λ run. rules run value.0 ≡ []) found.stays.1 none }))
+        read_then (expression_sound s operator ts here split kind) (λ value found.
+        if_obeyed (rules value.1.run value.0) value.1 _ (λ none. holds (record { derived = found.1; unbroken = subst (λ run. rules run value.0 ≡ []) found.1.stays.1 none })))
 
     form_sound : (form : SettingForm) (s : State) (operator : SignificantToken) (ts : Tokens) → Here conditions 0 s → s.left ≡ operator ∷ ts
-        → IsKind kinds.ColonEquals operator → IfOk (r.assigned_value token_leaves token_view name keyword (Some form) (at s ts)) (IsSet form s)
-    form_sound TruthForm s operator ts here split kind = tt
-    form_sound ExpressionForm s operator ts here split kind = plainly (r.expression_value token_leaves (at s ts)) (expression_sound s operator ts here split kind)
-      where
-        plainly : (found : Read (SettingValue Tok Tok)) → IfOk found (λ x. IsValue ExpressionForm s x × IsValue PlainForm s x) → IfOk found (IsSet ExpressionForm s)
-        plainly (Ok x) h = record { derived = h.0; unbroken = refl }
-        plainly (Err e) h = tt
-    form_sound InterpreterForm s operator ts here split kind = plainly (r.interpreter token_leaves (at s ts)) (interpreter_sound s operator ts here split kind)
-      where
-        plainly : (found : Read (SettingValue Tok Tok)) → IfOk found (IsValue InterpreterForm s) → IfOk found (IsSet InterpreterForm s)
-        plainly (Ok x) h = record { derived = h; unbroken = refl }
-        plainly (Err e) h = tt
+        → IsKind kinds.ColonEquals operator → Holds (IsSet form s) (r.assigned_value token_leaves token_view name keyword (Some form) (at s ts))
+    form_sound TruthForm s operator ts here split kind = failed
+    form_sound ExpressionForm s operator ts here split kind = weaken (expression_sound s operator ts here split kind) (λ x h. record { derived = h.0; unbroken = refl })
+    form_sound InterpreterForm s operator ts here split kind = weaken (interpreter_sound s operator ts here split kind) (λ x h. record { derived = h; unbroken = refl })
     form_sound PlainForm s operator ts here split kind = plain_sound s operator ts here split kind
 
     operator_sound : (form : SettingForm) (s : State) → Here conditions 0 s
-        → IfOk (expect token_leaves kinds.ColonEquals s >>= λ operator. r.assigned_value token_leaves token_view name keyword (Some form) operator.1) (IsSet form s)
-    operator_sound form s here =
-        let P : Read (SettingValue Tok Tok) → Type 0 = λ o. IfOk o (IsSet form s) in
-        after_expect kinds.ColonEquals s _ P (λ e. tt) (λ operator ts split kind. form_sound form s operator ts here split kind)
+        → Holds (IsSet form s) (expect token_leaves kinds.ColonEquals s >>= λ operator. r.assigned_value token_leaves token_view name keyword (Some form) operator.1)
+    operator_sound form s here = if_expected kinds.ColonEquals s _ (λ operator ts split kind. form_sound form s operator ts here split kind)
 
     pub value_sound : (form : SettingForm) (s : State) → Here conditions 0 s → (NotNext kinds.ColonEquals s.left → EndsLine s.left)
-        → IfOk (r.setting_value token_leaves token_view name keyword (Some form) s) (IsSet form s)
-    value_sound TruthForm s here ends = plainly (r.truth token_leaves s) (truth_sound s here ends)
-      where
-        plainly : (found : Read (SettingValue Tok Tok)) → IfOk found (IsValue TruthForm s) → IfOk found (IsSet TruthForm s)
-        plainly (Ok x) h = record { derived = h; unbroken = refl }
-        plainly (Err e) h = tt
+        → Holds (IsSet form s) (r.setting_value token_leaves token_view name keyword (Some form) s)
+    value_sound TruthForm s here ends = weaken (truth_sound s here ends) (λ x h. record { derived = h; unbroken = refl })
     value_sound ExpressionForm s here ends = operator_sound ExpressionForm s here
     value_sound InterpreterForm s here ends = operator_sound InterpreterForm s here
     value_sound PlainForm s here ends = operator_sound PlainForm s here
 
     -- a keyword that isn't a setting has no value
-    pub no_value : (s : State) (P : SettingValue Tok Tok × State → Type 0) → IfOk (r.setting_value token_leaves token_view name keyword None s) P
-    no_value s P = after_expect kinds.ColonEquals s _ (λ (o : Read (SettingValue Tok Tok)). IfOk o P) (λ e. tt) (λ operator ts split kind. tt)
+    pub no_value : (s : State) (P : SettingValue Tok Tok × State → Type 0) → Holds P (r.setting_value token_leaves token_view name keyword None s)
+    no_value s P = if_expected kinds.ColonEquals s _ (λ operator ts split kind. failed)

@@ -8,10 +8,10 @@ use Rattle.justfile_model.specs.Grammars.Expressions.{Tokens, IsKind, NotNext, B
 use Rattle.justfile_model.specs.Lexing.SignificantTokens.{SignificantToken, is_whitespace}
 use Rattle.justfile_model.specs.Trees.Tree as tree
 use Rattle.justfile_model.specs.Trees.Tree.{bare_attribute, commented_line, lexeme, nothing}
-use Rattle.justfile_round_trip.proofs.LiteralTexts.LexedModes.{Sign, placed}
+use Rattle.justfile_round_trip.proofs.LiteralTexts.LexedModes.{Sign, placed, newline}
 use Rattle.justfile_round_trip.proofs.Back.{none_but_closing}
 use Rattle.justfile_round_trip.proofs.Canon as canon
-use Rattle.justfile_round_trip.proofs.Canon.{Shown, word, paren_right, newline, expr_signs}
+use Rattle.justfile_round_trip.proofs.Canon.{Shown, word, paren_right, expr_signs}
 use Rattle.justfile_round_trip.proofs.Attributes.CanonAttributes.{Argument, Written, ShapeEntry, bracket_right, argument_signs, other_arguments_signs, parenthesized_signs, comment_signs, attributes_signs, entries_signs}
 use Rattle.justfile_model.specs.Printed.PrintedAttributes.{rewritten_entries}
 use Rattle.justfile_round_trip.proofs.Good.{significant, ends_value, GoodOptionalComment}
@@ -62,11 +62,10 @@ module _ (limit : ℕ) where
   argument_back : (keys : Bool) (a : Argument) (glued : Bool) (on : List Sign) → GoodArgument limit keys a → ends_value (significant true on) ≡ true
       → (fs : Shown) × ArgumentOf lexeme nothing (BelowLimit limit) keys a fs (significant glued (argument_signs a on)) (significant true on)
   argument_back keys (tree.Positional first value) glued on h stop =
-      (h.0.features, positional keys (begins glued (expr_signs value on)) (λ k. literal_no_key value glued on (h.1 k)) (h.0.derives.derives glued on stop))
+      (h.0.features, positional keys (begins glued (expr_signs value on)) (λ k. literal_no_key value glued on (h.1 k)) (h.0.derives glued on stop))
   argument_back true (tree.Bare key) glued on h stop = ([], g.bare (is_key _ _ refl stop) (none_but_closing kinds.Equals _ refl stop))
-  argument_back true (tree.Keyed key value) glued on h stop = (h.2.features, g.keyed refl refl (h.2.derives.derives true on stop))
-  argument_back false (tree.Bare key) glued on h stop = let bad = h.1 in cc
-  argument_back false (tree.Keyed key value) glued on h stop = let bad = h.1 in cc
+  argument_back true (tree.Keyed key value) glued on h stop = (h.2.features, g.keyed refl refl (h.2.derives true on stop))
+  argument_back _ _ glued on h stop = let bad = h.1 in cc
 
   arguments_back : (keys : Bool) (a : Argument) (arguments : List Argument) (glued : Bool) (on : List Sign) → GoodArguments limit keys (a ∷ arguments)
       → (fs : Shown) × Arguments lexeme nothing (BelowLimit limit) keys (a ∷ arguments) fs (significant glued (argument_signs a (other_arguments_signs arguments (paren_right ∷ on)))) (significant true on)

@@ -1,13 +1,13 @@
--- The printer of attributes with a continuation: text before text, and tokens before tokens.
-use Rattle.std.proofs.Common.{◌≡◌, ℕ, List, [], ◌∷◌, ◌++◌, Option, Some, None, refl, ap, ◌∙◌, append_assoc, codes}
+-- The printer's tokens of attributes, before other tokens, and their text.
+use Rattle.std.proofs.Common.{◌≡◌, ℕ, List, [], ◌∷◌, ◌++◌, Option, Some, None, refl, ap, codes}
 use Rattle.std.specs.List.{flat_map}
 use Rattle.justfile_vocabulary.specs.declared.token_kind.TokenKind.TheVariants as kinds
 use Rattle.justfile_model.specs.Trees.Tree as tree
 use Rattle.justfile_model.specs.Trees.Tree.{WrittenAttribute, Positional, Bare, Keyed, Entry}
 use Rattle.justfile_model.specs.Printed.Printing.{after_line_text, fixed_text, expr_text, argument_text, arguments_text, parenthesized_arguments, attribute_arguments, entry_text, entries_text}
 use Rattle.justfile_model.specs.Printed.PrintedAttributes.{rewritten_entry, rewritten_entries}
-use Rattle.justfile_round_trip.proofs.LiteralTexts.LexedModes.{Sign, sign}
-use Rattle.justfile_round_trip.proofs.Canon.{newline, word, paren_left, paren_right, comma, space, expr_on, expr_signs, expr_is, then}
+use Rattle.justfile_round_trip.proofs.LiteralTexts.LexedModes.{Sign, sign, space, newline, text_of}
+use Rattle.justfile_round_trip.proofs.Canon.{word, paren_left, paren_right, comma, expr_signs, expr_is, then, joined}
 
 -- What attributes of a shape are made of: arguments, attributes as they are written, and what they mean.
 abbrev pub Argument : Type 0
@@ -18,42 +18,6 @@ Written = WrittenAttribute (List ℕ) (Unit {0})
 
 abbrev pub ShapeEntry : Type 0
 ShapeEntry = Entry (List ℕ) (Unit {0})
-
--- ---- texts
-
-abbrev pub argument_on : Argument → List ℕ → List ℕ
-argument_on (Positional first value) more = expr_on value more
-argument_on (Bare key) more = key ++ more
-argument_on (Keyed key value) more = key ++ (61 ∷ expr_on value more)
-
--- arguments after the first
-abbrev pub other_arguments_on : List Argument → List ℕ → List ℕ
-other_arguments_on [] more = more
-other_arguments_on (a ∷ arguments) more = codes ", " ++ argument_on a (other_arguments_on arguments more)
-
--- in parentheses, if there are any
-abbrev pub parenthesized_on : List Argument → List ℕ → List ℕ
-parenthesized_on [] more = more
-parenthesized_on (a ∷ arguments) more = 40 ∷ argument_on a (other_arguments_on arguments (41 ∷ more))
-
--- a comment at the end of a line, after a blank, if there is one
-abbrev pub comment_on : Option (List ℕ) → List ℕ → List ℕ
-comment_on None more = more
-comment_on (Some t) more = 32 ∷ (t ++ more)
-
--- an attribute on a line of its own
-abbrev pub written_on : Written → List ℕ → List ℕ
-written_on w more = 91 ∷ (w.name ++ parenthesized_on w.arguments (93 ∷ comment_on w.comment (10 ∷ more)))
-
-abbrev pub attributes_on : List Written → List ℕ → List ℕ
-attributes_on [] more = more
-attributes_on (w ∷ ws) more = written_on w (attributes_on ws more)
-
--- attributes by what they mean, as they are printed
-abbrev pub entries_on : List ShapeEntry → List ℕ → List ℕ
-entries_on entries = attributes_on (rewritten_entries entries)
-
--- ---- tokens
 
 abbrev pub equals : Sign
 equals = sign kinds.Equals (codes "=")
@@ -91,50 +55,40 @@ attributes_signs (w ∷ ws) ts = written_signs w (attributes_signs ws ts)
 abbrev pub entries_signs : List ShapeEntry → List Sign → List Sign
 entries_signs entries = attributes_signs (rewritten_entries entries)
 
--- ---- the text of the definitions is this text
+-- ---- their text is the text of the definitions
 
-argument_is : (a : Argument) (more : List ℕ) → argument_text a ++ more ≡ argument_on a more
+argument_is : (a : Argument) (ts : List Sign) → argument_text a ++ text_of ts ≡ text_of (argument_signs a ts)
 unfolding fixed_text
-argument_is (Positional first value) more = expr_is value more
-argument_is (Bare key) more = refl
-argument_is (Keyed key value) more =
-    append_assoc (key ++ codes "=") (expr_text value) more
-    ∙ append_assoc key (codes "=") (expr_text value ++ more)
-    ∙ ap (λ t. key ++ (61 ∷ t)) (expr_is value more)
+argument_is (Positional first value) ts = expr_is value ts
+argument_is (Bare key) ts = refl
+argument_is (Keyed key value) ts = joined key (codes "=") (expr_text value) _ (expr_is value ts) refl
 
-arguments_is : (a : Argument) (arguments : List Argument) (more : List ℕ)
-    → arguments_text (a ∷ arguments) ++ more ≡ argument_on a (other_arguments_on arguments more)
+arguments_are : (a : Argument) (arguments : List Argument) (ts : List Sign)
+    → arguments_text (a ∷ arguments) ++ text_of ts ≡ text_of (argument_signs a (other_arguments_signs arguments ts))
 unfolding fixed_text
-arguments_is a [] more = argument_is a more
-arguments_is a (b ∷ arguments) more =
-    append_assoc (argument_text a ++ codes ", ") (arguments_text (b ∷ arguments)) more
-    ∙ append_assoc (argument_text a) (codes ", ") (arguments_text (b ∷ arguments) ++ more)
-    ∙ argument_is a _
-    ∙ ap (λ t. argument_on a (codes ", " ++ t)) (arguments_is b arguments more)
+arguments_are a [] ts = argument_is a ts
+arguments_are a (b ∷ arguments) ts = joined (argument_text a) (codes ", ") (arguments_text (b ∷ arguments)) _ (arguments_are b arguments ts) (argument_is a _)
 
-parenthesized_is : (arguments : List Argument) (more : List ℕ) → parenthesized_arguments arguments ++ more ≡ parenthesized_on arguments more
+parenthesized_is : (arguments : List Argument) (ts : List Sign) → parenthesized_arguments arguments ++ text_of ts ≡ text_of (parenthesized_signs arguments ts)
 unfolding fixed_text
-parenthesized_is [] more = refl
-parenthesized_is (a ∷ arguments) more = ap (λ t. 40 ∷ t) (append_assoc (arguments_text (a ∷ arguments)) (codes ")") more ∙ arguments_is a arguments (41 ∷ more))
+parenthesized_is [] ts = refl
+parenthesized_is (a ∷ arguments) ts = ap (λ t. 40 ∷ t) (then (arguments_text (a ∷ arguments)) (codes ")") (text_of ts) refl (arguments_are a arguments (paren_right ∷ ts)))
 
-pub comment_is : (comment : Option (List ℕ)) (more : List ℕ) → after_line_text comment ++ more ≡ comment_on comment more
+pub comment_is : (comment : Option (List ℕ)) (ts : List Sign) → after_line_text comment ++ text_of ts ≡ text_of (comment_signs comment ts)
 unfolding fixed_text
-comment_is None more = refl
-comment_is (Some t) more = refl
+comment_is None ts = refl
+comment_is (Some t) ts = refl
 
-entry_is : (e : ShapeEntry) (more : List ℕ) → entry_text e ++ more ≡ written_on (rewritten_entry e) more
+entry_is : (e : ShapeEntry) (ts : List Sign) → entry_text e ++ text_of ts ≡ text_of (written_signs (rewritten_entry e) ts)
 unfolding fixed_text
-entry_is e more =
+entry_is e ts =
     let name = (rewritten_entry e).name in
     let arguments = attribute_arguments e.attribute in
     let inside = name ++ parenthesized_arguments arguments in
-    ap (λ t. 91 ∷ t) (then ((inside ++ codes "]") ++ after_line_text e.comment) (codes "\n") more refl
-    (then (inside ++ codes "]") (after_line_text e.comment) _ (comment_is e.comment (10 ∷ more))
+    ap (λ t. 91 ∷ t) (then ((inside ++ codes "]") ++ after_line_text e.comment) (codes "\n") (text_of ts) refl
+    (then (inside ++ codes "]") (after_line_text e.comment) _ (comment_is e.comment (newline ∷ ts))
     (then inside (codes "]") _ refl (then name (parenthesized_arguments arguments) _ (parenthesized_is arguments _) refl))))
 
-pub entries_is : (entries : List ShapeEntry) (more : List ℕ) → entries_text entries ++ more ≡ entries_on entries more
-entries_is [] more = refl
-entries_is (e ∷ entries) more =
-    append_assoc (entry_text e) (flat_map entry_text entries) more
-    ∙ entry_is e (flat_map entry_text entries ++ more)
-    ∙ ap (written_on (rewritten_entry e)) (entries_is entries more)
+pub entries_are : (entries : List ShapeEntry) (ts : List Sign) → entries_text entries ++ text_of ts ≡ text_of (entries_signs entries ts)
+entries_are [] ts = refl
+entries_are (e ∷ entries) ts = then (entry_text e) (flat_map entry_text entries) (text_of ts) (entries_are entries ts) (entry_is e _)

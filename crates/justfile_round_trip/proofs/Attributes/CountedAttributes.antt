@@ -1,8 +1,7 @@
 -- A count over the values of attributes, except literals, is the same for the printed attributes as for the written ones.
-use Rattle.std.proofs.Common.{◌≡◌, ℕ, ◌+◌, ◌≤◌, Bool, true, false, cond, List, [], ◌∷◌, map, length, Option, Some, None, codes, refl, sym, ap, ◌∙◌, arith, ltb-false}
+use Rattle.std.proofs.Common.{◌≡◌, ℕ, ◌+◌, ◌≤◌, Bool, true, false, List, [], ◌∷◌, map, length, Option, Some, None, codes, refl, sym, ap, ◌∙◌, arith, ltb-false}
 use Rattle.std.specs.Prelude.{◌||◌, nat_lt}
 use Rattle.std.specs.List.{flat_map}
-use Rattle.std.specs.Ordering.{is_gt}
 use Rattle.std.specs.declared.cmp.Ordering.{Ordering}
 use Rattle.std.proofs.lemmas.Bool.{or_parts}
 use Rattle.justfile_vocabulary.specs.AttributeKind.{kind_named}
@@ -45,9 +44,6 @@ values_alone values keys n k v = omega (arith, k, v)
 keys_alone : (values keys n : ℕ) → values ≡ 0 → keys ≡ n → values + keys ≡ n
 keys_alone values keys n v k = omega (arith, k, v)
 
-swapped : (x y ys : ℕ) → y + (x + ys) ≡ x + (y + ys)
-swapped x y ys = omega arith
-
 module _ (weight : Value → ℕ) (weightless : (expanded : Bool) (l : List ℕ) → weight (tree.StringLiteral expanded l) ≡ 0) where
   abbrev optional_weight : Option Value → ℕ
   optional_weight = counted.optional_weight weight
@@ -79,8 +75,7 @@ module _ (weight : Value → ℕ) (weightless : (expanded : Bool) (l : List ℕ)
   in_two : (arguments : List Argument) → arguments_weight arguments ≡ places_weight (by_position arguments) + keys_weight (by_key arguments)
   in_two [] = refl
   in_two (tree.Positional first value ∷ arguments) = let h = in_two arguments in omega (arith, h)
-  in_two (tree.Bare key ∷ arguments) = let h = in_two arguments in omega (arith, h)
-  in_two (tree.Keyed key value ∷ arguments) = let h = in_two arguments in omega (arith, h)
+  in_two (_ ∷ arguments) = let h = in_two arguments in omega (arith, h)
 
   abbrev property_weight : Option (Property (List ℕ) (Unit {0})) → ℕ
   property_weight None = 0
@@ -88,13 +83,11 @@ module _ (weight : Value → ℕ) (weightless : (expanded : Bool) (l : List ℕ)
 
   -- the number of features in the meaning of an attribute
   abbrev attribute_weight : Meant → ℕ
-  attribute_weight (tree.Plain kind) = 0
   attribute_weight (tree.Single kind value) = values_weight (value ∷ [])
-  attribute_weight (tree.Texts kind texts) = 0
   attribute_weight (tree.Env key value) = values_weight (key ∷ value ∷ [])
-  attribute_weight (tree.Signals signals) = 0
   attribute_weight (tree.Cache extra inputs outputs) = optional_weight extra + (optional_weight inputs + optional_weight outputs)
   attribute_weight (tree.Arg rules) = property_weight rules.pattern + (optional_weight rules.value + property_weight rules.help)
+  attribute_weight _ = 0
 
   abbrev entries_weight : List ShapeEntry → ℕ
   entries_weight [] = 0
@@ -272,12 +265,7 @@ module _ (weight : Value → ℕ) (weightless : (expanded : Bool) (l : List ℕ)
     placed_weight : (cmp : ShapeEntry → ShapeEntry → Ordering) (x : ShapeEntry) (ys : List ShapeEntry)
         → entries_weight (placed cmp x ys) ≡ attribute_weight x.attribute + entries_weight ys
     placed_weight cmp x [] = refl
-    placed_weight cmp x (y ∷ ys) = by (is_gt (cmp x y)) (placed_weight cmp x ys)
-      where
-        by : (b : Bool) → entries_weight (placed cmp x ys) ≡ attribute_weight x.attribute + entries_weight ys
-            → entries_weight (cond b (y ∷ placed cmp x ys) (x ∷ y ∷ ys)) ≡ attribute_weight x.attribute + (attribute_weight y.attribute + entries_weight ys)
-        by true h = ap (λ n. attribute_weight y.attribute + n) h ∙ swapped (attribute_weight x.attribute) (attribute_weight y.attribute) (entries_weight ys)
-        by false h = refl
+    placed_weight cmp x (y ∷ ys) = grind (arith, placed_weight cmp x ys)
 
     in_order_weight : (cmp : ShapeEntry → ShapeEntry → Ordering) (es : List ShapeEntry) → entries_weight (in_order cmp es) ≡ entries_weight es
     in_order_weight cmp [] = refl

@@ -1,6 +1,5 @@
 -- A count over the values of distinct known keys is the same as a count over a table of the known keys.
 use Rattle.std.proofs.Common.{◌≡◌, ℕ, ◌+◌, Bool, true, false, cond, not, List, [], ◌∷◌, ◌++◌, Option, Some, None, is_some, refl, sym, ap, ◌∙◌, append-nil, append_assoc, arith, true≢false}
-use Rattle.std.specs.Prelude.{◌||◌}
 use Rattle.std.specs.List.{filter, find, list_any}
 use Rattle.std.specs.Str.{bytes_eq}
 use Rattle.std.proofs.lemmas.Bool.{or_parts}
@@ -24,12 +23,7 @@ KeyOf = KeyArgument (List ℕ) (Unit {0})
 
 find_after : {X : Type 0} (p : X → Bool) (xs : List X) (x : X) → find p xs ≡ None → find p (xs ++ x ∷ []) ≡ cond (p x) (Some x) None
 find_after p [] x h = refl
-find_after p (y ∷ ys) x h = by (p y) h (find_after p ys x)
-  where
-    by : (b : Bool) → cond b (Some y) (find p ys) ≡ None → (find p ys ≡ None → find p (ys ++ x ∷ []) ≡ cond (p x) (Some x) None)
-        → cond b (Some y) (find p (ys ++ x ∷ [])) ≡ cond (p x) (Some x) None
-    by true e f = absurd (true≢false (ap is_some e))
-    by false e f = f e
+find_after p (y ∷ ys) x h = grind (arith, find_after p ys x)
 
 find_before : {X : Type 0} (p : X → Bool) (xs : List X) (x : X) → p x ≡ false → find p (xs ++ x ∷ []) ≡ find p xs
 find_before p [] x h = ap (λ b. cond b (Some x) None) h
@@ -40,8 +34,7 @@ nothing_found None h = refl
 nothing_found (Some x) h = absurd (true≢false h)
 
 pub unless : {T : Type 0} (b : Bool) (x : T) → cond b (x ∷ []) [] ≡ [] → b ≡ false
-unless true x e = never_nil x [] e
-unless false x e = refl
+unless b x e = grind arith
 
 -- ---- words
 
@@ -63,15 +56,9 @@ spread_none key (word ∷ words) n h =
 
 spread_once : (key : List ℕ) (words : List (List ℕ)) (n : ℕ) → AllApart words → list_any (bytes_eq key) words ≡ true → spread key words n ≡ n
 spread_once key [] n apart h = cc
-spread_once key (word ∷ words) n apart h = by (bytes_eq key word) refl h (spread_once key words n apart.1)
-  where
-    by : (b : Bool) → bytes_eq key word ≡ b → (b || list_any (bytes_eq key) words) ≡ true → (list_any (bytes_eq key) words ≡ true → spread key words n ≡ n)
-        → cond b n 0 + spread key words n ≡ n
-    by true e h more =
-        let same : key ≡ word = (bytes_eq-Decides key word).0 e in
-        let none = spread_none key words n (ap (λ x. list_any (bytes_eq x) words) same ∙ apart.0) in
-        omega (arith, none)
-    by false e h more = let once = more h in omega (arith, once)
+spread_once key (word ∷ words) n apart h =
+    let none : bytes_eq key word ≡ true → spread key words n ≡ 0 = λ e. spread_none key words n (ap (λ x. list_any (bytes_eq x) words) ((bytes_eq-Decides key word).0 e) ∙ apart.0) in
+    grind (arith, none, spread_once key words n apart.1)
 
 apart_words : (kind : AttributeKind) → AllApart (known_keys kind)
 apart_words kinds.Arg = (refl, (refl, (refl, (refl, (refl, (refl, (refl, (refl, (refl, tt)))))))))
@@ -136,14 +123,7 @@ module _ (weight : Value → ℕ) where
 
     none_unknown : (kind : AttributeKind) (keys : List KeyOf) → filter (λ k. not (is_known view tt kind k)) keys ≡ [] → AllKnown (known_keys kind) keys
     none_unknown kind [] h = tt
-    none_unknown kind (k ∷ keys) h = by (is_known view tt kind k) refl h (none_unknown kind keys)
-      where
-        by : (b : Bool) → is_known view tt kind k ≡ b
-            → cond (not b) (k ∷ filter (λ k. not (is_known view tt kind k)) keys) (filter (λ k. not (is_known view tt kind k)) keys) ≡ []
-            → (filter (λ k. not (is_known view tt kind k)) keys ≡ [] → AllKnown (known_keys kind) keys)
-            → (list_any (bytes_eq k.key) (known_keys kind) ≡ true) × AllKnown (known_keys kind) keys
-        by true e h more = (e, more h)
-        by false e h more = never_nil k _ h
+    none_unknown kind (k ∷ keys) h = (grind arith, none_unknown kind keys (grind arith))
 
     least_none : (keys : List KeyOf) (f : KeyOf → List (Broken (Unit {0}))) → ((k : KeyOf) → f k ≡ [] → ⊥)
         → of_some f (least (λ (k : KeyOf). k.key) keys) ≡ [] → keys ≡ []

@@ -6,7 +6,8 @@ use Rattle.justfile_model.specs.Printed.PrintedAttributes.{rewritten_entry, rewr
 use Rattle.justfile_model.specs.Trees.Tree.{StringLiteral, Positional, Bare, Keyed}
 use Rattle.justfile_round_trip.proofs.Canon.{Value}
 use Rattle.justfile_round_trip.proofs.Attributes.CanonAttributes.{Argument, Written, ShapeEntry}
-use Rattle.justfile_round_trip.proofs.Good.{GoodName, GoodExpression, GoodOptionalComment}
+use Rattle.justfile_round_trip.proofs.LiteralTexts.Inline.{IsName}
+use Rattle.justfile_round_trip.proofs.Good.{GoodExpression, GoodOptionalComment}
 
 -- a string literal, which isn't a key
 abbrev pub is_literal : Value → Bool
@@ -17,15 +18,15 @@ module _ (limit : ℕ) where
   -- an argument of an attribute that takes keys or not; where it does, those by position are literals
   abbrev pub GoodArgument : (keys : Bool) → Argument → Type 0
   GoodArgument keys (Positional first value) = GoodExpression limit value × (keys ≡ true → is_literal value ≡ true)
-  GoodArgument keys (Bare key) = GoodName key × (keys ≡ true)
-  GoodArgument keys (Keyed key value) = GoodName key × (keys ≡ true) × GoodExpression limit value
+  GoodArgument keys (Bare key) = IsName key × (keys ≡ true)
+  GoodArgument keys (Keyed key value) = IsName key × (keys ≡ true) × GoodExpression limit value
 
   abbrev pub GoodArguments : (keys : Bool) → List Argument → Type 0
   GoodArguments keys = AllByRecursion (GoodArgument keys)
 
   -- an attribute as it is written where it is printed
   pub record GoodWritten (w : Written) : Type 0 where
-    pub named : GoodName w.name
+    pub named : IsName w.name
     pub arguments : GoodArguments (name_takes_keys w.name) w.arguments
     pub comment : GoodOptionalComment w.comment
 

@@ -1,14 +1,9 @@
 -- The printed form of attributes is good, if their values are.
-use Rattle.std.proofs.Common.{◌≡◌, ℕ, ◌<◌, ◌^◌, Bool, true, false, cond, ltb, List, [], ◌∷◌, map, Option, Some, None, refl, sym, ap, ◌∙◌, subst, arith, codes}
-use Rattle.std.specs.Prelude.{◌&&◌}
+use Rattle.std.proofs.Common.{◌≡◌, ℕ, ◌<◌, ◌^◌, Bool, true, false, cond, List, [], ◌∷◌, map, Option, Some, None, refl, sym, ap, ◌∙◌, subst, arith, codes}
 use Rattle.std.specs.List.{find, AllByRecursion}
 use Rattle.std.specs.Ordering.{is_gt}
 use Rattle.std.specs.declared.cmp.Ordering.{Ordering}
-use Rattle.std.specs.Str.{IsUtf8}
-use Rattle.std.specs.Str.Parse.{digits_value}
 use Rattle.std.proofs.lemmas.Bool.Decides.{nat_tests}
-use Rattle.std.proofs.lemmas.Str.{IsUtf8-nil}
-use Rattle.std.proofs.lemmas.List.{append-nil}
 use Rattle.justfile_model.proofs.Meanings.MeaningParts.{arg_meaning}
 use Rattle.justfile_model.proofs.Lists.AllParts.{both}
 use Rattle.justfile_model.proofs.Lists.Binds.{bind_back, never_some, of_some_is}
@@ -21,31 +16,30 @@ use Rattle.justfile_vocabulary.proofs.AttributeKindLaws.{named}
 use Rattle.justfile_model.specs.Meanings.AttributeKinds.{named_takes_keys, name_takes_keys, takes_expressions}
 use Rattle.justfile_model.specs.Trees.ContentKeys.{kind_of_attribute, entry_cmp}
 use Rattle.justfile_model.specs.Meanings.Meaning as meaning
-use Rattle.justfile_model.specs.Meanings.Meaning.{◌>>=◌, all_of, of_given, first_of, quoted, PositionalArgument, KeyArgument, by_position, by_key, count_of, signal_set, text_of, at_key, property_of, value_of, bare_of, option_named, option_at, bound_of, rules_of, single_of, texts_of, env_of, signal_of, of_expressions, of_literals, by_takes, attribute_of, entry_of, entries_of}
+use Rattle.justfile_model.specs.Meanings.Meaning.{all_of, of_given, quoted, PositionalArgument, KeyArgument, by_position, by_key, count_of, signal_set, text_of, at_key, property_of, value_of, option_named, option_at, bound_of, rules_of, single_of, texts_of, env_of, signal_of, of_expressions, of_literals, by_takes, attribute_of, entry_of, entries_of}
 use Rattle.justfile_model.specs.Lists.Order.{placed, in_order}
 use Rattle.justfile_model.specs.Printed.Printing.{fixed_text, quoted_argument, signal_argument, keyed_if, bare_if, option_argument, number_literal, rules_arguments, attribute_arguments}
 use Rattle.justfile_model.specs.Trees.LeafView.{LeafView}
 use Rattle.justfile_model.specs.Trees.Tree as tree
 use Rattle.justfile_model.specs.Trees.Tree.{Quoted, Property, Bound, OptionName, ArgumentRules, Attribute}
-use Rattle.justfile_round_trip.proofs.LiteralTexts.Inline.{is_word, word_name}
+use Rattle.justfile_round_trip.proofs.LiteralTexts.Inline.{IsName, is_word, word_name}
 use Rattle.justfile_round_trip.proofs.Canon.{Value}
 use Rattle.justfile_round_trip.proofs.Attributes.CanonAttributes.{Argument, Written, ShapeEntry}
-use Rattle.justfile_round_trip.proofs.Good.{GoodName, GoodExpression, GoodOptionalComment}
+use Rattle.justfile_round_trip.proofs.Good.{GoodExpression, GoodOptionalComment}
 use Rattle.justfile_round_trip.proofs.Attributes.GoodAttributes.{GoodArguments, GoodEntry, GoodEntries, GoodArgument}
 use Rattle.justfile_round_trip.proofs.LiteralTexts.PlainLiterals.{some_limit, number_good, signal_good}
-use Rattle.justfile_round_trip.proofs.Values.WrittenValues.{all_ascii, plain}
 
 -- ---- names of kinds and of keys
 
-word_good : (w : List ℕ) → is_word w ≡ true → all_ascii w ≡ true → GoodName (fixed_text w)
+word_good : (w : List ℕ) → is_word w ≡ true → IsName (fixed_text w)
 unfolding fixed_text
-word_good w h ascii = record { is_name = word_name w h; utf8 = subst IsUtf8 (append-nil w) (plain w [] ascii IsUtf8-nil) }
+word_good w h = word_name w h
 
 -- the first clause makes the checker go through all kinds
-kind_good : (k : AttributeKind) → GoodName (fixed_text (attribute_name k))
+kind_good : (k : AttributeKind) → IsName (fixed_text (attribute_name k))
 unfolding class_of
-kind_good attributes.Android = word_good (attribute_name attributes.Android) refl refl
-kind_good kind = word_good (attribute_name kind) refl refl
+kind_good attributes.Android = word_good (attribute_name attributes.Android) refl
+kind_good kind = word_good (attribute_name kind) refl
 
 -- whether it takes keys is seen from its name
 keys_of_name : (k : AttributeKind) → name_takes_keys (fixed_text (attribute_name k)) ≡ takes_keys k
@@ -59,12 +53,7 @@ IfGiven P None = Unit {0}
 IfGiven P (Some x) = P x
 
 count_small : (text : List ℕ) (n : ℕ) → count_of text ≡ Some n → n < 2 ^ 64
-count_small text n e = by (meaning.is_count text) (ltb (digits_value 10 text) (2 ^ 64)) refl e
-  where
-    by : (a b : Bool) → ltb (digits_value 10 text) (2 ^ 64) ≡ b → cond (a && b) (Some (digits_value 10 text)) None ≡ Some n → n < 2 ^ 64
-    by true true small e = of_some_is (λ v. v < 2 ^ 64) _ n e (grind (arith, nat_tests, small))
-    by true false small e = cc
-    by false b small e = cc
+count_small text n e = grind (arith, nat_tests)
 
 module _ (limit : ℕ) where
   -- ---- written arguments: each value is good
@@ -103,8 +92,7 @@ module _ (limit : ℕ) where
   source_values : (arguments : List Argument) → AllGoodSource arguments → AllValues (map (λ (p : PositionalArgument (List ℕ) (Unit {0})). p.value) (by_position arguments))
   source_values [] h = tt
   source_values (tree.Positional first value ∷ arguments) h = (h.0, source_values arguments h.1)
-  source_values (tree.Bare key ∷ arguments) h = source_values arguments h.1
-  source_values (tree.Keyed key value ∷ arguments) h = source_values arguments h.1
+  source_values (_ ∷ arguments) h = source_values arguments h.1
 
   source_keys : (arguments : List Argument) → AllGoodSource arguments → AllKeys (by_key arguments)
   source_keys [] h = tt
@@ -144,22 +132,21 @@ module _ (limit : ℕ) where
   signal_arguments [] some = tt
   signal_arguments (s ∷ ss) some = ((signal_good limit s some, λ k. refl), signal_arguments ss some)
 
-  keyed_good : {X : Type 0} (word : List ℕ) (f : X → Value) (P : X → Type 0) → GoodName (fixed_text word) → ((x : X) → P x → GoodExpression limit (f x))
+  keyed_good : {X : Type 0} (word : List ℕ) (f : X → Value) (P : X → Type 0) → IsName (fixed_text word) → ((x : X) → P x → GoodExpression limit (f x))
       → (o : Option X) → IfGiven P o
       → GoodArguments limit true (keyed_if word f o)
   keyed_good word f P name step None h = tt
   keyed_good word f P name step (Some x) h = ((name, refl, step x h), tt)
 
-  bare_good : {X : Type 0} (word : List ℕ) → GoodName (fixed_text word) → (o : Option X) → GoodArguments limit true (bare_if word o)
+  bare_good : {X : Type 0} (word : List ℕ) → IsName (fixed_text word) → (o : Option X) → GoodArguments limit true (bare_if word o)
   bare_good word name None = tt
   bare_good word name (Some x) = ((name, refl), tt)
 
   abbrev GoodOption : OptionName (List ℕ) (Unit {0}) → Type 0
-  GoodOption tree.NoOption = Unit {0}
-  GoodOption (tree.OwnName key) = Unit {0}
   GoodOption (tree.Named q) = GoodQuoted q
+  GoodOption _ = Unit {0}
 
-  option_good : (word : List ℕ) → GoodName (fixed_text word) → (o : OptionName (List ℕ) (Unit {0})) → GoodOption o
+  option_good : (word : List ℕ) → IsName (fixed_text word) → (o : OptionName (List ℕ) (Unit {0})) → GoodOption o
       → GoodArguments limit true (option_argument word o)
   option_good word name tree.NoOption h = tt
   option_good word name (tree.OwnName key) h = ((name, refl), tt)
@@ -189,15 +176,15 @@ module _ (limit : ℕ) where
       let join = both (GoodArgument limit true) in (
         (h.name, λ k. refl),
         join _ _ (join _ _ (join _ _ (join _ _ (join _ _ (join _ _ (join _ _ (join _ _
-            (option_good (codes "long") (word_good (codes "long") refl refl) a.long h.long)
-            (option_good (codes "short") (word_good (codes "short") refl refl) a.short h.short))
-            (keyed_good (codes "pattern") (λ p. p.value) GoodProperty (word_good (codes "pattern") refl refl) (λ p good. good) a.pattern h.pattern))
-            (keyed_good (codes "value") (λ e. e) (GoodExpression limit) (word_good (codes "value") refl refl) (λ e good. good) a.value h.value))
-            (bare_good (codes "flag") (word_good (codes "flag") refl refl) a.flag))
-            (bare_good (codes "multiple") (word_good (codes "multiple") refl refl) a.multiple))
-            (keyed_good (codes "min") (λ b. number_literal b.number) GoodBound (word_good (codes "min") refl refl) number a.min h.min))
-            (keyed_good (codes "max") (λ b. number_literal b.number) GoodBound (word_good (codes "max") refl refl) number a.max h.max))
-            (keyed_good (codes "help") (λ p. p.value) GoodProperty (word_good (codes "help") refl refl) (λ p good. good) a.help h.help),
+            (option_good (codes "long") (word_good (codes "long") refl) a.long h.long)
+            (option_good (codes "short") (word_good (codes "short") refl) a.short h.short))
+            (keyed_good (codes "pattern") (λ p. p.value) GoodProperty (word_good (codes "pattern") refl) (λ p good. good) a.pattern h.pattern))
+            (keyed_good (codes "value") (λ e. e) (GoodExpression limit) (word_good (codes "value") refl) (λ e good. good) a.value h.value))
+            (bare_good (codes "flag") (word_good (codes "flag") refl) a.flag))
+            (bare_good (codes "multiple") (word_good (codes "multiple") refl) a.multiple))
+            (keyed_good (codes "min") (λ b. number_literal b.number) GoodBound (word_good (codes "min") refl) number a.min h.min))
+            (keyed_good (codes "max") (λ b. number_literal b.number) GoodBound (word_good (codes "max") refl) number a.max h.max))
+            (keyed_good (codes "help") (λ p. p.value) GoodProperty (word_good (codes "help") refl) (λ p good. good) a.help h.help),
       )
 
   -- ---- what they mean
@@ -267,11 +254,11 @@ module _ (limit : ℕ) where
         let join = both (GoodArgument limit true) in
         of_some_is GoodAttribute _ _ outputs.gives
         (join _ _ (join _ _
-        (keyed_good (codes "extra") (λ e. e) (GoodExpression limit) (word_good (codes "extra") refl refl) value extra.first
+        (keyed_good (codes "extra") (λ e. e) (GoodExpression limit) (word_good (codes "extra") refl) value extra.first
         (given_good (GoodExpression limit) (value_of view) value_good _ extra.first extra.is (at (codes "extra"))))
-        (keyed_good (codes "inputs") (λ e. e) (GoodExpression limit) (word_good (codes "inputs") refl refl) value inputs.first
+        (keyed_good (codes "inputs") (λ e. e) (GoodExpression limit) (word_good (codes "inputs") refl) value inputs.first
         (given_good (GoodExpression limit) (value_of view) value_good _ inputs.first inputs.is (at (codes "inputs")))))
-        (keyed_good (codes "outputs") (λ e. e) (GoodExpression limit) (word_good (codes "outputs") refl refl) value outputs.first
+        (keyed_good (codes "outputs") (λ e. e) (GoodExpression limit) (word_good (codes "outputs") refl) value outputs.first
         (given_good (GoodExpression limit) (value_of view) value_good _ outputs.first outputs.is (at (codes "outputs")))))
 
     signals_good : (texts : List (Quoted (List ℕ))) (given : List Signal) → all_of (signal_of view) texts ≡ Some given → AllQuoted texts

@@ -12,10 +12,10 @@ use Rattle.justfile_model.specs.Meanings.RecipeRules.{dependency_broken, header_
 use Rattle.justfile_model.specs.Lexing.SignificantTokens.{is_whitespace}
 use Rattle.justfile_model.specs.Trees.Tree.{lexeme, nothing}
 use Rattle.justfile_model.proofs.Lists.Binds.{nothing_in}
-use Rattle.justfile_round_trip.proofs.LiteralTexts.LexedModes.{Sign, placed}
+use Rattle.justfile_round_trip.proofs.LiteralTexts.LexedModes.{Sign, placed, space}
 use Rattle.justfile_round_trip.proofs.Back.{StopE, glued_string, lower, none_but_closing, stop_at, stop_before, ends_before, value_before, expression_back, value_back}
-use Rattle.justfile_round_trip.proofs.Canon.{Shown, colon, word, paren_right, space}
-use Rattle.justfile_round_trip.proofs.Headers.CanonHeaders.{ShapeParameter, ShapeArgument, ShapeDependency, ShapeHeader, default_signs, dollar_signs, prefix_signs, parameters_signs, path_rest_signs, path_signs, dependency_arguments_signs, dependency_parts_signs, dependency_signs, dependencies_signs, subsequents_signs, header_rest_signs, header_signs, ampersands}
+use Rattle.justfile_round_trip.proofs.Canon.{Shown, colon, word, paren_right, flag_signs}
+use Rattle.justfile_round_trip.proofs.Headers.CanonHeaders.{ShapeParameter, ShapeArgument, ShapeDependency, ShapeHeader, default_signs, prefix_signs, parameters_signs, path_rest_signs, path_signs, dependency_arguments_signs, dependency_parts_signs, dependency_signs, dependencies_signs, subsequents_signs, header_rest_signs, header_signs, ampersands, dollar_sign}
 use Rattle.justfile_round_trip.proofs.Ends.{End, tail, EndsIn, ValueEndsIn, expression_head}
 use Rattle.justfile_round_trip.proofs.Good.{significant, ends_value}
 use Rattle.justfile_round_trip.proofs.Headers.GoodHeaders.{HeaderDerivesBack}
@@ -35,7 +35,7 @@ parameters_parted [] on = record { no_equals = λ e. cc; no_paren = λ e. cc; ap
 parameters_parted (p ∷ ps) on = by p.kind p.export
   where
     by : (k : ParameterKind) (b : Bool)
-        → Parted (significant true (space ∷ prefix_signs k (dollar_signs b (word p.name ∷ default_signs p.default (parameters_signs ps (colon ∷ on))))))
+        → Parted (significant true (space ∷ prefix_signs k (flag_signs b dollar_sign (word p.name ∷ default_signs p.default (parameters_signs ps (colon ∷ on))))))
     by Singular true = record { no_equals = λ e. cc; no_paren = λ e. cc; apart = refl }
     by _ _ = record { no_equals = λ e. cc; no_paren = λ e. cc; apart = refl }
 
@@ -80,8 +80,7 @@ AllStarred (d ∷ ds) = NoBareStar d.star d.arguments × AllStarred ds
 
 no_bare_star : (star : Option (Unit {0})) (arguments : List ShapeArgument) → second_broken (stars arguments) ++ misplaced_broken star (stars arguments) ≡ [] → NoBareStar star arguments
 no_bare_star (Some star) [] h = cc
-no_bare_star (Some star) (a ∷ arguments) h = tt
-no_bare_star None arguments h = tt
+no_bare_star _ _ h = tt
 
 all_starred : (ds : List ShapeDependency) → flat_map dependency_broken ds ≡ [] → AllStarred ds
 all_starred [] h = tt
@@ -111,7 +110,7 @@ module _ (limit : ℕ) where
   -- ---- parameters
 
   record ParameterBack (kind : ParameterKind) (p : ShapeParameter) (fs : Shown) (b : Bool) (on : List Sign) : Type 0 where
-    derives : ParameterOf lexeme nothing (BelowLimit limit) kind p fs (significant b (dollar_signs p.export (word p.name ∷ default_signs p.default on))) (significant true on)
+    derives : ParameterOf lexeme nothing (BelowLimit limit) kind p fs (significant b (flag_signs p.export dollar_sign (word p.name ∷ default_signs p.default on))) (significant true on)
     same_kind : p.kind ≡ kind
 
   named_back : {kind : ParameterKind} {export : Bool} {p : ShapeParameter} {fs : Shown} {ts rest : Tokens}
@@ -127,10 +126,10 @@ module _ (limit : ℕ) where
   named_parts (g.optional kind kind2 v) = (refl, refl)
 
   with_parts : (p : ShapeParameter) (fs : Shown) (b : Bool) (on : List Sign) {kind : ParameterKind} {export : Bool} → (p.kind ≡ kind) × (p.export ≡ export)
-      → ParameterOf lexeme nothing (BelowLimit limit) kind p fs (significant b (dollar_signs export (word p.name ∷ default_signs p.default on))) (significant true on)
+      → ParameterOf lexeme nothing (BelowLimit limit) kind p fs (significant b (flag_signs export dollar_sign (word p.name ∷ default_signs p.default on))) (significant true on)
       → ParameterBack kind p fs b on
   with_parts p fs b on {kind} parts x = record {
-    derives = subst (λ e. ParameterOf lexeme nothing (BelowLimit limit) kind p fs (significant b (dollar_signs e (word p.name ∷ default_signs p.default on))) (significant true on))
+    derives = subst (λ e. ParameterOf lexeme nothing (BelowLimit limit) kind p fs (significant b (flag_signs e dollar_sign (word p.name ∷ default_signs p.default on))) (significant true on))
         (sym parts.1) x;
     same_kind = parts.0;
   }
@@ -147,15 +146,15 @@ module _ (limit : ℕ) where
   parameters_back (g.more {p = p} {ps = ps} {fs = fs} {gs = gs} x r) b on =
       let others = parameters_signs ps (colon ∷ on) in
       let q = parameter_back x false others (parameters_parted ps on) in
-      subst (λ k. Parameters lexeme nothing (BelowLimit limit) (p ∷ ps) (fs ++ gs) (significant false (prefix_signs k (dollar_signs p.export (word p.name ∷ default_signs p.default others)))) (significant true on))
+      subst (λ k. Parameters lexeme nothing (BelowLimit limit) (p ∷ ps) (fs ++ gs) (significant false (prefix_signs k (flag_signs p.export dollar_sign (word p.name ∷ default_signs p.default others)))) (significant true on))
       (sym q.same_kind) (g.more q.derives (parameters_back r true on))
   parameters_back (g.plus {p = p} {fs = fs} kind x kind2) b on =
       let q = parameter_back x true (colon ∷ on) (parameters_parted [] on) in
-      subst (λ k. Parameters lexeme nothing (BelowLimit limit) (p ∷ []) fs (significant false (prefix_signs k (dollar_signs p.export (word p.name ∷ default_signs p.default (colon ∷ on))))) (significant true on))
+      subst (λ k. Parameters lexeme nothing (BelowLimit limit) (p ∷ []) fs (significant false (prefix_signs k (flag_signs p.export dollar_sign (word p.name ∷ default_signs p.default (colon ∷ on))))) (significant true on))
       (sym q.same_kind) (g.plus refl q.derives refl)
   parameters_back (g.star {p = p} {fs = fs} kind x kind2) b on =
       let q = parameter_back x true (colon ∷ on) (parameters_parted [] on) in
-      subst (λ k. Parameters lexeme nothing (BelowLimit limit) (p ∷ []) fs (significant false (prefix_signs k (dollar_signs p.export (word p.name ∷ default_signs p.default (colon ∷ on))))) (significant true on))
+      subst (λ k. Parameters lexeme nothing (BelowLimit limit) (p ∷ []) fs (significant false (prefix_signs k (flag_signs p.export dollar_sign (word p.name ∷ default_signs p.default (colon ∷ on))))) (significant true on))
       (sym q.same_kind) (g.star refl q.derives refl)
 
   -- ---- dependencies
@@ -250,8 +249,6 @@ module _ (limit : ℕ) where
 
   pub header_back : {h : ShapeHeader} {fs : Shown} {ts rest : Tokens} → HeaderOf lexeme nothing nothing (BelowLimit limit) h fs ts rest → header_broken h ≡ []
       → HeaderDerivesBack limit h fs
-  header_back {h} x unbroken = record {
-    derives = λ b on stop.
-        let parts = nothing_in (flat_map dependency_broken h.priors) (flat_map dependency_broken h.subsequents) unbroken in
-        header_signs_back x (all_starred h.priors parts.0) (all_starred h.subsequents parts.1) b on (ends_either on stop);
-  }
+  header_back {h} x unbroken b on stop =
+      let parts = nothing_in (flat_map dependency_broken h.priors) (flat_map dependency_broken h.subsequents) unbroken in
+      header_signs_back x (all_starred h.priors parts.0) (all_starred h.subsequents parts.1) b on (ends_either on stop)

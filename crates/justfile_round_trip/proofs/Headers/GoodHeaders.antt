@@ -1,12 +1,11 @@
 -- Good headers of recipes: each lexeme has the properties of its token, and the printer's tokens derive the header.
 use Rattle.std.proofs.Common.{◌≡◌, ℕ, Bool, true, List, [], ◌∷◌, Option, Some, None}
-use Rattle.std.specs.Str.{IsUtf8}
 use Rattle.justfile_model.specs.Grammars.Expressions.{BelowLimit}
 use Rattle.justfile_model.specs.Grammars.Headers.{HeaderOf}
 use Rattle.justfile_model.specs.Trees.Tree.{lexeme, nothing}
 use Rattle.justfile_round_trip.proofs.LiteralTexts.LexedModes.{Sign}
 use Rattle.justfile_round_trip.proofs.Canon.{Shown, Value}
-use Rattle.justfile_round_trip.proofs.Headers.CanonHeaders.{ShapeParameter, ShapeArgument, ShapeDependency, ShapeHeader, header_on, header_signs}
+use Rattle.justfile_round_trip.proofs.Headers.CanonHeaders.{ShapeParameter, ShapeArgument, ShapeDependency, ShapeHeader, header_signs}
 use Rattle.justfile_round_trip.proofs.Good.{GoodValue, ends_value, significant, GoodPath}
 use Rattle.justfile_round_trip.proofs.LiteralTexts.Inline.{IsName}
 
@@ -35,12 +34,11 @@ pub record LexesHeader (h : ShapeHeader) : Type 0 where
 
 module _ (limit : ℕ) where
   -- the header's tokens derive it, before any others that a value ends at
-  pub record HeaderDerivesBack (h : ShapeHeader) (features : Shown) : Type 0 where
-    pub derives : (glued : Bool) (on : List Sign) → ends_value (significant true on) ≡ true
-        → HeaderOf lexeme nothing nothing (BelowLimit limit) h features (significant glued (header_signs h on)) (significant true on)
+  abbrev pub HeaderDerivesBack : ShapeHeader → Shown → Type 0
+  HeaderDerivesBack h features = (glued : Bool) (on : List Sign) → ends_value (significant true on) ≡ true
+      → HeaderOf lexeme nothing nothing (BelowLimit limit) h features (significant glued (header_signs h on)) (significant true on)
 
   pub record GoodHeader (h : ShapeHeader) : Type 0 where
     pub lexes : LexesHeader h
     pub features : Shown
     pub derives : HeaderDerivesBack h features
-    pub utf8 : (more : List ℕ) → IsUtf8 more → IsUtf8 (header_on h more)

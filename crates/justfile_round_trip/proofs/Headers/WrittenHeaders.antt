@@ -1,11 +1,8 @@
 -- A header that any text derives is good.
-use Rattle.std.proofs.Common.{◌≡◌, ℕ, Bool, true, false, List, [], ◌∷◌, ◌++◌, Option, Some, None, refl, ap}
-use Rattle.std.specs.Str.{IsUtf8}
-use Rattle.std.proofs.lemmas.Str.{IsUtf8-append}
+use Rattle.std.proofs.Common.{◌≡◌, ℕ, Bool, true, false, List, [], ◌∷◌, None, refl, ap}
 use Rattle.justfile_vocabulary.specs.declared.token_kind.TokenKind.{TokenKind}
 use Rattle.justfile_vocabulary.specs.declared.token_kind.TokenKind.TheVariants as kinds
 use Rattle.justfile_model.specs.declared.parameter_kind.ParameterKind.{ParameterKind}
-use Rattle.justfile_model.specs.declared.parameter_kind.ParameterKind.TheVariants.{Plus, Singular, Star}
 use Rattle.justfile_model.specs.Grammars.Expressions.{Tokens, IsKind, BelowLimit}
 use Rattle.justfile_model.specs.Grammars.Headers as g
 use Rattle.justfile_model.specs.Grammars.Headers.{PathOf, NamedParameter, ParameterOf, Parameters, DependencyArguments, DependencyOf, Dependencies, AllDependencies, NamedHeader, HeaderOf}
@@ -14,48 +11,15 @@ use Rattle.justfile_model.specs.Trees.Tree.{lexeme, nothing}
 use Rattle.justfile_model.specs.Lexing.SignificantTokens.{SignificantToken}
 use Rattle.justfile_round_trip.proofs.RecipeBodies.BodyFacts.{Situation, colon_after, situation_after}
 use Rattle.justfile_round_trip.proofs.RecipeBodies.BodyGood.{IsOutside, outside_after, shifts}
-use Rattle.justfile_round_trip.proofs.Ahead.{Ahead, AheadOf, PassedIn, Stays, one_ahead, past_ahead, past_token, path_good, value_ahead}
+use Rattle.justfile_round_trip.proofs.Ahead.{Ahead, AheadOf, Passed, PassedIn, Stays, lexed_name, one_ahead, past_ahead, past_token, path_good, value_ahead}
 use Rattle.justfile_round_trip.proofs.Good.{GoodPath}
 use Rattle.justfile_round_trip.proofs.Headers.BackHeaders.{header_back}
-use Rattle.justfile_round_trip.proofs.Items.BackContents.{path_utf8}
 use Rattle.justfile_round_trip.proofs.Canon.{Shown}
-use Rattle.justfile_round_trip.proofs.Headers.CanonHeaders.{ShapeParameter, ShapeArgument, ShapeDependency, ShapeHeader, prefix_on, dollar_on, default_on, parameter_on, parameters_on, star_on, dependency_arguments_on, dependency_parts_on, dependency_on, dependencies_on, subsequents_on, at_on, header_rest_on, header_on}
+use Rattle.justfile_round_trip.proofs.Headers.CanonHeaders.{ShapeParameter, ShapeArgument, ShapeDependency, ShapeHeader}
 use Rattle.justfile_round_trip.proofs.Headers.GoodHeaders.{GoodDefault, GoodParameters, GoodDependencyArguments, GoodDependencies, LexesHeader, GoodHeader}
 use Rattle.justfile_round_trip.proofs.LiteralTexts.Inline.{IsName}
 use Rattle.justfile_round_trip.proofs.Values.TokenFacts.{Around, outside}
-use Rattle.justfile_round_trip.proofs.Values.WrittenValues.{fact_as, past, plain, within}
-
--- ---- UTF-8
-
--- a text before others that are UTF-8 is UTF-8
-abbrev Keeps : (List ℕ → List ℕ) → Type 0
-Keeps f = (more : List ℕ) → IsUtf8 more → IsUtf8 (f more)
-
-prefix_utf8 : (k : ParameterKind) → Keeps (prefix_on k)
-prefix_utf8 Plus more u = plain (43 ∷ []) more refl u
-prefix_utf8 Singular more u = u
-prefix_utf8 Star more u = plain (42 ∷ []) more refl u
-
-dollar_utf8 : (b : Bool) → Keeps (dollar_on b)
-dollar_utf8 true more u = plain (36 ∷ []) more refl u
-dollar_utf8 false more u = u
-
-star_utf8 : (star : Option (Unit {0})) → Keeps (star_on star)
-star_utf8 (Some s) more u = plain (42 ∷ []) more refl u
-star_utf8 None more u = u
-
-at_utf8 : (b : Bool) → Keeps (at_on b)
-at_utf8 true more u = plain (64 ∷ []) more refl u
-at_utf8 false more u = u
-
-dependency_utf8 : (star : Option (Unit {0})) (path : List (List ℕ)) (arguments : List ShapeArgument) → GoodPath path → Keeps (dependency_arguments_on arguments)
-    → Keeps (dependency_parts_on star path arguments)
-dependency_utf8 star path [] p a more u = path_utf8 path more p u
-dependency_utf8 star path (x ∷ arguments) p a more u = star_utf8 star _ (plain (40 ∷ []) _ refl (path_utf8 path _ p (a _ (plain (41 ∷ []) more refl u))))
-
-subsequents_utf8 : (ds : List ShapeDependency) → Keeps (dependencies_on ds) → Keeps (subsequents_on ds)
-subsequents_utf8 [] k more u = u
-subsequents_utf8 (d ∷ ds) k more u = plain (32 ∷ 38 ∷ 38 ∷ []) _ refl (k more u)
+use Rattle.justfile_round_trip.proofs.Values.WrittenValues.{past, within}
 
 -- ---- after the colon of a recipe
 
@@ -89,129 +53,98 @@ outside_header a = record { facts = a.facts; bodies = record { situation = a.bod
 
 -- ---- along a derivation
 
--- a part of a header: its lexemes are good, its text is UTF-8, and no delimiter stays open
-record Found (P : Situation → Type 0) (Good : Type 0) (text : List ℕ → List ℕ) (rest : Tokens) : Type 0 where
-  good : Good
-  utf8 : Keeps text
-  following : AheadOf P outside false rest
-
 module _ (limit : ℕ) where
   abbrev GoodParameter : ShapeParameter → Type 0
   GoodParameter p = IsName p.name × GoodDefault p.default
 
   named_at : {kind : ParameterKind} {export : Bool} {p : ShapeParameter} {fs : Shown} {ts rest : Tokens}
-      → NamedParameter lexeme nothing (BelowLimit limit) kind export p fs ts rest → {c : Bool} → Ahead outside c ts
-      → Found IsOutside (GoodParameter p) (λ more. p.name ++ default_on p.default more) rest
-  named_at (g.required {name = t} {rest = rest} kind next) a = record {
-    good = (fact_as t kinds.Identifier kind a.facts.0, tt);
-    utf8 = λ more u. IsUtf8-append t.tok.lexeme more a.facts.0.utf8 u;
-    following = past_token t rest kinds.Identifier kind refl a;
-  }
+      → NamedParameter lexeme nothing (BelowLimit limit) kind export p fs ts rest → {c : Bool} → Ahead outside c ts → Passed (GoodParameter p) rest
+  named_at (g.required {name = t} {rest = rest} kind next) a = record { good = (lexed_name t kind a.facts.0, tt); following = past_token t rest kinds.Identifier kind refl a }
   named_at (g.optional {name = t} {equals = q} {tokens = ts} kind kind2 v) a =
       let x = one_ahead outside_after limit v (past_token q ts kinds.Equals kind2 refl (past_token t (q ∷ ts) kinds.Identifier kind refl a)) in
-      record {
-        good = (fact_as t kinds.Identifier kind a.facts.0, x.at.lexes);
-        utf8 = λ more u. IsUtf8-append t.tok.lexeme _ a.facts.0.utf8 (plain (61 ∷ []) _ refl (x.at.utf8 more u));
-        following = x.following;
-      }
-
-  -- with the signs before its name
-  prefixed : (p : ShapeParameter) {rest : Tokens} → Found IsOutside (GoodParameter p) (λ more. p.name ++ default_on p.default more) rest
-      → Found IsOutside (GoodParameter p) (parameter_on p) rest
-  prefixed p x = record { good = x.good; utf8 = λ more u. prefix_utf8 p.kind _ (dollar_utf8 p.export _ (x.utf8 more u)); following = x.following }
+      record { good = (lexed_name t kind a.facts.0, x.good); following = x.following }
 
   parameter_at : {kind : ParameterKind} {p : ShapeParameter} {fs : Shown} {ts rest : Tokens} → ParameterOf lexeme nothing (BelowLimit limit) kind p fs ts rest
-      → {c : Bool} → Ahead outside c ts → Found IsOutside (GoodParameter p) (parameter_on p) rest
-  parameter_at {p = p} (g.exported {dollar = t} {tokens = ts} kind n) a = prefixed p (named_at n (past_token t ts kinds.Dollar kind refl a))
-  parameter_at {p = p} (g.unexported n) a = prefixed p (named_at n a)
+      → {c : Bool} → Ahead outside c ts → Passed (GoodParameter p) rest
+  parameter_at (g.exported {dollar = t} {tokens = ts} kind n) a = named_at n (past_token t ts kinds.Dollar kind refl a)
+  parameter_at (g.unexported n) a = named_at n a
 
   -- the last parameter and the colon
-  last_at : (p : ShapeParameter) (q : SignificantToken) (rest : Tokens) → IsKind kinds.Colon q → Found IsOutside (GoodParameter p) (parameter_on p) (q ∷ rest)
-      → Found IsHeader (GoodParameters (p ∷ [])) (parameters_on (p ∷ [])) rest
-  last_at p q rest kind x =
-      record { good = (x.good.0, x.good.1, tt); utf8 = λ more u. plain (32 ∷ []) _ refl (x.utf8 more u); following = past_colon q rest kind x.following }
+  last_at : (p : ShapeParameter) (q : SignificantToken) (rest : Tokens) → IsKind kinds.Colon q → Passed (GoodParameter p) (q ∷ rest)
+      → PassedIn IsHeader outside (GoodParameters (p ∷ [])) rest
+  last_at p q rest kind x = record { good = (x.good.0, x.good.1, tt); following = past_colon q rest kind x.following }
 
   -- up to the colon and with it
   parameters_at : {ps : List ShapeParameter} {fs : Shown} {ts rest : Tokens} → Parameters lexeme nothing (BelowLimit limit) ps fs ts rest → {c : Bool} → Ahead outside c ts
-      → Found IsHeader (GoodParameters ps) (parameters_on ps) rest
-  parameters_at (g.none {colon = t} {rest = rest} kind) a = record { good = tt; utf8 = λ more u. u; following = past_colon t rest kind a }
+      → PassedIn IsHeader outside (GoodParameters ps) rest
+  parameters_at (g.none {colon = t} {rest = rest} kind) a = record { good = tt; following = past_colon t rest kind a }
   parameters_at (g.more p r) a =
       let x = parameter_at p a in
       let y = parameters_at r x.following in
-      record { good = (x.good.0, x.good.1, y.good); utf8 = λ more u. plain (32 ∷ []) _ refl (x.utf8 _ (y.utf8 more u)); following = y.following }
-  parameters_at (g.plus {prefix = t} {colon = q} {tokens = ts} {rest = rest} kind p kind2) a = last_at _ q rest kind2 (parameter_at p (past_token t ts kinds.Plus kind refl a))
-  parameters_at (g.star {prefix = t} {colon = q} {tokens = ts} {rest = rest} kind p kind2) a = last_at _ q rest kind2 (parameter_at p (past_token t ts kinds.Asterisk kind refl a))
+      record { good = (x.good.0, x.good.1, y.good); following = y.following }
+  parameters_at (g.plus {p = last} {prefix = t} {colon = q} {tokens = ts} {rest = rest} kind p kind2) a = last_at last q rest kind2 (parameter_at p (past_token t ts kinds.Plus kind refl a))
+  parameters_at (g.star {p = last} {prefix = t} {colon = q} {tokens = ts} {rest = rest} kind p kind2) a = last_at last q rest kind2 (parameter_at p (past_token t ts kinds.Asterisk kind refl a))
 
   -- inside parentheses, and past the closing one
   arguments_at : {arguments : List ShapeArgument} {fs : Shown} {ts rest : Tokens} → DependencyArguments lexeme nothing nothing (BelowLimit limit) arguments fs ts rest
-      → AheadOf IsHeader (within outside None) false ts → Found IsHeader (GoodDependencyArguments arguments) (dependency_arguments_on arguments) rest
-  arguments_at (g.none {closer = t} {rest = rest} kind) a = record { good = tt; utf8 = λ more u. u; following = past_ahead header_after t rest kinds.ParenR kind refl a }
+      → AheadOf IsHeader (within outside None) false ts → PassedIn IsHeader outside (GoodDependencyArguments arguments) rest
+  arguments_at (g.none {closer = t} {rest = rest} kind) a = record { good = tt; following = past_ahead header_after t rest kinds.ParenR kind refl a }
   arguments_at (g.plain x r) a =
       let v = value_ahead header_after limit x a in
       let y = arguments_at r v.following in
-      record { good = (v.at.lexes, y.good); utf8 = λ more u. plain (32 ∷ []) _ refl (v.at.utf8 _ (y.utf8 more u)); following = y.following }
+      record { good = (v.good, y.good); following = y.following }
   arguments_at (g.starred {mark = t} {tokens = ts} kind x r) a =
       let v = one_ahead header_after limit x (past_ahead header_after t ts kinds.Asterisk kind refl a) in
       let y = arguments_at r v.following in
-      record { good = (v.at.lexes, y.good); utf8 = λ more u. plain (32 ∷ 42 ∷ []) _ refl (v.at.utf8 _ (y.utf8 more u)); following = y.following }
+      record { good = (v.good, y.good); following = y.following }
 
   -- a path and arguments in parentheses, past the opening one
-  called_at : (star : Option (Unit {0})) {path : List (List ℕ)} {arguments : List ShapeArgument} {fs : Shown} {ts between rest : Tokens} → PathOf lexeme path ts between
+  called_at : {path : List (List ℕ)} {arguments : List ShapeArgument} {fs : Shown} {ts between rest : Tokens} → PathOf lexeme path ts between
       → DependencyArguments lexeme nothing nothing (BelowLimit limit) arguments fs between rest → AheadOf IsHeader (within outside None) false ts
-      → Found IsHeader (GoodPath path × GoodDependencyArguments arguments) (dependency_parts_on star path arguments) rest
-  called_at star {path} {arguments} p r a =
+      → PassedIn IsHeader outside (GoodPath path × GoodDependencyArguments arguments) rest
+  called_at p r a =
       let x = path_good header_after p a in
       let y = arguments_at r x.following in
-      record { good = (x.good, y.good); utf8 = dependency_utf8 star path arguments x.good y.utf8; following = y.following }
+      record { good = (x.good, y.good); following = y.following }
 
   dependency_at : {d : ShapeDependency} {fs : Shown} {ts rest : Tokens} → DependencyOf lexeme nothing nothing (BelowLimit limit) d fs ts rest → AheadOf IsHeader outside false ts
-      → Found IsHeader (GoodPath d.path × GoodDependencyArguments d.arguments) (dependency_on d) rest
-  dependency_at {d = d} (g.bare p) a =
-      let x = path_good header_after p a in record { good = (x.good, tt); utf8 = λ more u. path_utf8 d.path more x.good u; following = x.following }
-  dependency_at {d = d} (g.plain {opener = t} {tokens = ts} kind p r) a = called_at d.star p r (past_ahead header_after t ts kinds.ParenL kind refl a)
-  dependency_at {d = d} (g.starred {mark = q} {opener = t} {tokens = ts} kind kind2 p r) a =
-      called_at d.star p r (past_ahead header_after t ts kinds.ParenL kind2 refl (past_ahead header_after q (t ∷ ts) kinds.Asterisk kind refl a))
+      → PassedIn IsHeader outside (GoodPath d.path × GoodDependencyArguments d.arguments) rest
+  dependency_at (g.bare p) a = let x = path_good header_after p a in record { good = (x.good, tt); following = x.following }
+  dependency_at (g.plain {opener = t} {tokens = ts} kind p r) a = called_at p r (past_ahead header_after t ts kinds.ParenL kind refl a)
+  dependency_at (g.starred {mark = q} {opener = t} {tokens = ts} kind kind2 p r) a =
+      called_at p r (past_ahead header_after t ts kinds.ParenL kind2 refl (past_ahead header_after q (t ∷ ts) kinds.Asterisk kind refl a))
 
   dependencies_at : {ds : List ShapeDependency} {fs : Shown} {ts rest : Tokens} → Dependencies lexeme nothing nothing (BelowLimit limit) ds fs ts rest
-      → AheadOf IsHeader outside false ts → Found IsHeader (GoodDependencies ds) (dependencies_on ds) rest
-  dependencies_at (g.none a b c) h = record { good = tt; utf8 = λ more u. u; following = h }
+      → AheadOf IsHeader outside false ts → PassedIn IsHeader outside (GoodDependencies ds) rest
+  dependencies_at (g.none a b c) h = record { good = tt; following = h }
   dependencies_at (g.more d r) h =
       let x = dependency_at d h in
       let y = dependencies_at r x.following in
-      record { good = (x.good.0, x.good.1, y.good); utf8 = λ more u. plain (32 ∷ []) _ refl (x.utf8 _ (y.utf8 more u)); following = y.following }
+      record { good = (x.good.0, x.good.1, y.good); following = y.following }
 
   all_at : {ds ss : List ShapeDependency} {fs : Shown} {ts rest : Tokens} → AllDependencies lexeme nothing nothing (BelowLimit limit) ds ss fs ts rest
-      → AheadOf IsHeader outside false ts → Found IsHeader (GoodDependencies ds × GoodDependencies ss) (λ more. dependencies_on ds (subsequents_on ss more)) rest
-  all_at (g.priors x next) h =
-      let y = dependencies_at x h in record { good = (y.good, tt); utf8 = y.utf8; following = y.following }
-  all_at (g.both {d = d} {others = others} {operator = t} {next = ts} x kind z) h =
+      → AheadOf IsHeader outside false ts → PassedIn IsHeader outside (GoodDependencies ds × GoodDependencies ss) rest
+  all_at (g.priors x next) h = let y = dependencies_at x h in record { good = (y.good, tt); following = y.following }
+  all_at (g.both {operator = t} {next = ts} x kind z) h =
       let y = dependencies_at x h in
       let w = dependencies_at z (past_ahead header_after t ts kinds.AmpersandAmpersand kind refl y.following) in
-      record { good = (y.good, w.good); utf8 = λ more u. y.utf8 _ (subsequents_utf8 (d ∷ others) w.utf8 more u); following = w.following }
+      record { good = (y.good, w.good); following = w.following }
 
   named_header_at : {quiet : Bool} {h : ShapeHeader} {fs : Shown} {ts rest : Tokens} → NamedHeader lexeme nothing nothing (BelowLimit limit) quiet h fs ts rest
-      → {c : Bool} → Ahead outside c ts → Found IsHeader (LexesHeader h) (λ more. h.name ++ header_rest_on h more) rest
+      → {c : Bool} → Ahead outside c ts → PassedIn IsHeader outside (LexesHeader h) rest
   named_header_at (g.header {name = t} {tokens = ts} kind ps all) a =
       let x = parameters_at ps (past_token t ts kinds.Identifier kind refl a) in
       let y = all_at all x.following in
-      record {
-        good = record { is_name = fact_as t kinds.Identifier kind a.facts.0; parameters = x.good; priors = y.good.0; subsequents = y.good.1 };
-        utf8 = λ more u. IsUtf8-append t.tok.lexeme _ a.facts.0.utf8 (x.utf8 _ (plain (58 ∷ []) _ refl (y.utf8 more u)));
-        following = y.following;
-      }
+      record { good = record { is_name = lexed_name t kind a.facts.0; parameters = x.good; priors = y.good.0; subsequents = y.good.1 }; following = y.following }
 
   header_found : {h : ShapeHeader} {fs : Shown} {ts rest : Tokens} → HeaderOf lexeme nothing nothing (BelowLimit limit) h fs ts rest → {c : Bool} → Ahead outside c ts
-      → Found IsHeader (LexesHeader h) (header_on h) rest
-  header_found {h} (g.quiet {at = t} {tokens = ts} kind n) a =
-      let x = named_header_at n (past_token t ts kinds.At kind refl a) in
-      record { good = x.good; utf8 = λ more u. at_utf8 h.quiet _ (x.utf8 more u); following = x.following }
-  header_found {h} (g.loud n) a =
-      let x = named_header_at n a in
-      record { good = x.good; utf8 = λ more u. at_utf8 h.quiet _ (x.utf8 more u); following = x.following }
+      → PassedIn IsHeader outside (LexesHeader h) rest
+  header_found (g.quiet {at = t} {tokens = ts} kind n) a = named_header_at n (past_token t ts kinds.At kind refl a)
+  header_found (g.loud n) a = named_header_at n a
 
   -- a header that any text derives, with its stars at allowed places, and the tokens after it
   pub header_at : {h : ShapeHeader} {fs : Shown} {ts rest : Tokens} → HeaderOf lexeme nothing nothing (BelowLimit limit) h fs ts rest → header_broken h ≡ [] → {c : Bool}
       → Ahead outside c ts → PassedIn IsHeader outside (GoodHeader limit h) rest
   header_at {fs = fs} x unbroken a =
       let found = header_found x a in
-      record { good = record { lexes = found.good; features = fs; derives = header_back limit x unbroken; utf8 = found.utf8 }; following = found.following }
+      record { good = record { lexes = found.good; features = fs; derives = header_back limit x unbroken }; following = found.following }

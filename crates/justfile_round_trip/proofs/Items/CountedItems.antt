@@ -81,9 +81,8 @@ module _ (feature : ListFeature) where
     -- in the constructs of a shape, each as it is printed
     abbrev pub shape_weight : Shape → ℕ
     shape_weight [] = 0
-    shape_weight (tree.Newline ∷ s) = shape_weight s
-    shape_weight (tree.Comment t ∷ s) = shape_weight s
     shape_weight (Construct entries content ∷ s) = content_weight entries content + shape_weight s
+    shape_weight (_ ∷ s) = shape_weight s
 
     -- where this is the running version
     module _ (current : VersionNumbers) where

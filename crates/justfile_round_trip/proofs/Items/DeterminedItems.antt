@@ -58,21 +58,17 @@ setting_features (tree.Value value) = value_features false value
 setting_features (tree.Interpreter command arguments) = values_features (tree.more command arguments)
 
 abbrev pub content_features : ShapeContent → Shown
-content_features (tree.Alias parts) = []
 content_features (tree.Assignment parts) = value_features false parts.value
 content_features (tree.Function parts) = value_features false parts.body
-content_features (tree.Import parts) = []
-content_features (tree.Module parts) = []
 content_features (tree.Recipe parts) = header_features parts.header ++ body_features parts.body
 content_features (tree.Setting parts) = setting_features parts.value
-content_features (tree.Unexport name) = []
+content_features _ = []
 
 -- the features of a written shape
 abbrev pub items_features : WrittenShape → List (ConstructFeatures (Unit {0}))
 items_features [] = []
-items_features (tree.Newline ∷ items) = items_features items
-items_features (tree.Comment t ∷ items) = items_features items
 items_features (Construct ws content ∷ items) = record { attributes = written_features ws; content = content_features content } ∷ items_features items
+items_features (_ ∷ items) = items_features items
 
 trimmed_features : (ls : List ShapeLine) → body_features (trimmed ls) ≡ body_features ls
 trimmed_features [] = refl

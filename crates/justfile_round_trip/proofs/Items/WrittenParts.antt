@@ -1,32 +1,25 @@
 -- In any text the parts of items other than headers are good.
 use Rattle.std.proofs.Common.{ℕ, false, List, ◌∷◌, None, refl}
-use Rattle.justfile_round_trip.proofs.Ahead.{Ahead, Passed, keep_quiet, lexed_name, past_token, value_good}
+use Rattle.justfile_round_trip.proofs.Ahead.{Ahead, Passed, lexed_name, past_token, quiet_ahead, value_good}
 use Rattle.justfile_vocabulary.specs.declared.token_kind.TokenKind.TheVariants as kinds
 use Rattle.justfile_model.specs.Grammars.Expressions.{Tokens, BelowLimit, Sequence}
 use Rattle.justfile_model.specs.Grammars.ItemParts as g
 use Rattle.justfile_model.specs.Grammars.ItemParts.{FilePath, Names, ValueOf}
 use Rattle.justfile_model.specs.Grammars.Settings.{SettingForm}
 use Rattle.justfile_model.specs.Trees.Tree.{lexeme, nothing}
-use Rattle.justfile_round_trip.proofs.RecipeBodies.BodyGood.{IsOutside, Walked, outside_after, quiet_walk}
+use Rattle.justfile_round_trip.proofs.RecipeBodies.BodyGood.{IsOutside, Walked, outside_after}
 use Rattle.justfile_round_trip.proofs.Canon.{Shown, Values}
 use Rattle.justfile_round_trip.proofs.Items.CanonParts.{ShapeQuoted, ShapeSetting}
 use Rattle.justfile_round_trip.proofs.Good.{GoodNames}
 use Rattle.justfile_round_trip.proofs.Items.GoodContents.{GoodFilePath, GoodSequence, GoodSettingValue}
 use Rattle.justfile_round_trip.proofs.Values.TokenFacts.{outside}
-use Rattle.justfile_round_trip.proofs.Walks.{walk_sequence}
-use Rattle.justfile_round_trip.proofs.Values.WrittenValues.{fact_as, good_sequence, sequence_at, within}
+use Rattle.justfile_round_trip.proofs.Values.WrittenValues.{known_as, good_sequence, sequence_at, within}
 
 pub file_path_good : {q : ShapeQuoted} {ts rest : Tokens} → FilePath lexeme q ts rest → Ahead outside false ts → Passed (GoodFilePath q) rest
-file_path_good (g.plain {token = t} {rest = rest} kind) a = record {
-  good = record { is_string = fact_as t kinds.StringToken kind a.facts.0; utf8 = a.facts.0.utf8 };
-  following = past_token t rest kinds.StringToken kind refl a;
-}
+file_path_good (g.plain {token = t} {rest = rest} kind) a = record { good = known_as t kinds.StringToken kind a.facts.0; following = past_token t rest kinds.StringToken kind refl a }
 file_path_good (g.expanded {mark = m} {token = t} {rest = rest} is kind) a =
     let marked = past_token m (t ∷ rest) kinds.Identifier is.is_name refl a in
-    record {
-      good = record { is_string = fact_as t kinds.StringToken kind marked.facts.0; utf8 = marked.facts.0.utf8 };
-      following = past_token t rest kinds.StringToken kind refl marked;
-    }
+    record { good = known_as t kinds.StringToken kind marked.facts.0; following = past_token t rest kinds.StringToken kind refl marked }
 
 -- inside parentheses, and past the closing one
 pub names_good : {names : List (List ℕ)} {ts rest : Tokens} → Names lexeme names ts rest → Ahead (within outside None) false ts → Passed (GoodNames names) rest
@@ -44,14 +37,8 @@ module _ (limit : ℕ) where
   pub sequence_good : {es : Values} {fs : Shown} {ts rest : Tokens} → Sequence lexeme nothing (BelowLimit limit) kinds.BracketR 0 es fs ts rest
       → Ahead (within outside None) false ts → Passed (GoodSequence limit es) rest
   sequence_good xs a =
-      let v = sequence_at (BelowLimit limit) xs outside (within outside None) (λ l. refl) refl false a.facts in
-      record {
-        good = good_sequence limit xs v;
-        following = record {
-          facts = v.following;
-          bodies = walk_sequence lexeme nothing (BelowLimit limit) (Walked IsOutside) (quiet_walk IsOutside (keep_quiet outside_after)) xs refl a.bodies;
-        };
-      }
+      let v = sequence_at (BelowLimit limit) (Walked IsOutside) (quiet_ahead outside_after) xs outside (within outside None) (λ l. refl) refl a in
+      record { good = good_sequence limit xs v.good; following = v.following }
 
   -- after the name of a setting
   pub setting_value_good : {form : SettingForm} {v : ShapeSetting} {fs : Shown} {ts rest : Tokens} → ValueOf lexeme nothing (BelowLimit limit) form v fs ts rest

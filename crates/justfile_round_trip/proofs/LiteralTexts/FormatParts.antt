@@ -23,7 +23,7 @@ following leaf position MayEnter {ts = ts} x s c h =
     let shape = carry.expression {C = Unit {0}} {D = Unit {0}} leaf position MayEnter (λ t u. t ≡ u) equal_same lexeme nothing MayEnter
     (λ a. tt) (λ b. tt) (λ a. tt) (λ b. tt) (λ t u e. refl) (λ t u e. refl)
     (λ d ts us same o. subst (λ x. MayEnter d (front x)) (pairs_equal same) o) x ts (equal_pairs ts) in
-    subst (Sound s false) (sym (pairs_equal shape.same)) (value_at MayEnter shape.derives s c h).following
+    subst (Sound s false) (sym (pairs_equal shape.same)) (value_at MayEnter (λ ts. Unit {0}) (λ k t ts e q w. tt) shape.derives s (record { facts = h; bodies = tt })).following.facts
 
 -- ---- for a parser, which reads a format string part by part
 

@@ -1,7 +1,6 @@
 -- In format mode, a literal or a part of one that was lexed ends at the same position before any text that can be printed after it.
 use Rattle.std.proofs.Common.{◌≡◌, ℕ, zero, suc, ◌+◌, Bool, true, false, cond, eqb, ltb, List, [], ◌∷◌, ◌++◌, length, get_or, take, drop, refl, sym, ap, ◌∙◌, subst, arith, length-take, take-append-drop}
 use Rattle.std.specs.Prelude.{◌&&◌, ◌||◌}
-use Rattle.std.proofs.lemmas.Bool.{and_parts}
 use Rattle.std.proofs.lemmas.Bool.Decides.{nat_tests}
 use Rattle.justfile_token.specs.declared.string_kind.StringDelimiter.{StringDelimiter}
 use Rattle.justfile_token.specs.declared.string_kind.StringDelimiter.TheVariants as delimiters
@@ -29,9 +28,7 @@ step_stable k x us vs n same_hidden same_end ih e =
     h = hides (raw_texts.Literal k true) (x ∷ us)
 
     go : (t u : Bool) → cond t (suc (scan k true h us)) (cond u 0 (suc (scan k true 0 us))) ≡ suc n → cond t (suc (scan k true h vs)) (cond u 0 (suc (scan k true 0 vs))) ≡ suc n
-    go true u e = ap suc (ih h (omega arith))
-    go false true e = absurd (omega arith)
-    go false false e = ap suc (ih 0 (omega arith))
+    go t u e = grind (arith, ih h, ih 0)
 
 -- ---- up to the delimiter
 
@@ -42,19 +39,14 @@ whole_ends _ true more = refl
 whole_ends _ _ more = refl
 
 not_both : (p r s : Bool) → ((p && false) && r) ≡ ((p && false) && s)
-not_both true r s = refl
-not_both false r s = refl
+not_both p r s = grind arith
 
 -- no brace is in a delimiter
 same_escape : (d : StringDelimiter) (i : Bool) (xs a b : List ℕ) → is_interpolation_escape (xs ++ (delimiter_of (record { delimiter = d; indented = i }) ++ a)) ≡ is_interpolation_escape (xs ++ (delimiter_of (record { delimiter = d; indented = i }) ++ b))
-same_escape delimiters.Backtick i [] a b = refl
-same_escape _ i [] a b = refl
 same_escape delimiters.Backtick i (x ∷ []) a b = not_both (eqb x 123) _ _
 same_escape _ i (x ∷ []) a b = not_both (eqb x 123) _ _
-same_escape delimiters.Backtick i (x ∷ y ∷ []) a b = refl
-same_escape _ i (x ∷ y ∷ []) a b = refl
-same_escape d i (x ∷ y ∷ z ∷ []) a b = refl
 same_escape d i (x ∷ y ∷ z ∷ w ∷ xs) a b = refl
+same_escape _ i xs a b = refl
 
 same_start : (d : StringDelimiter) (i : Bool) (x : ℕ) (xs a b : List ℕ) → is_interpolation_start (x ∷ xs ++ (delimiter_of (record { delimiter = d; indented = i }) ++ a)) ≡ is_interpolation_start (x ∷ xs ++ (delimiter_of (record { delimiter = d; indented = i }) ++ b))
 same_start d i x [] a b = refl
@@ -87,11 +79,8 @@ braces_one k x a b e = go (escapes k.delimiter && eqb x 92) (eqb x 123) (is_inte
     go : (t p s g d : Bool)
         → cond (ltb 0 (cond t (cond s 4 1) (cond ((p && true) && g) 3 0))) (suc (scan k true (cond t (cond s 4 1) (cond ((p && true) && g) 3 0)) (123 ∷ 123 ∷ a))) (cond (d || (p && true)) 0 (suc (scan k true 0 (123 ∷ 123 ∷ a)))) ≡ 1
         → cond (ltb 0 (cond t 1 (cond ((p && true) && false) 3 0))) (suc (scan k true (cond t 1 (cond ((p && true) && false) 3 0)) (123 ∷ 123 ∷ 32 ∷ b))) (cond (d || (p && true)) 0 (suc (scan k true 0 (123 ∷ 123 ∷ 32 ∷ b)))) ≡ 1
-    go true p true g d e = absurd (omega arith)
-    go true p false g d e = absurd (omega arith)
-    go false true s true d e = absurd (omega arith)
-    go false true s false true e = absurd (omega arith)
-    go false true s false false e = absurd (omega arith)
+    go true p s g d e = absurd (grind arith)
+    go false true s g d e = absurd (grind arith)
     go false false s g true e = absurd (omega arith)
     go false false s g false e = ap suc (braces_end k.delimiter k.indented b)
 
@@ -104,11 +93,7 @@ braces_two k x y a b ih e = by (escapes k.delimiter && eqb x 92) refl (is_interp
     third = cond (is_interpolation_escape (x ∷ y ∷ 123 ∷ 123 ∷ [])) 3 0
 
     no_escape : is_interpolation_escape (y ∷ 123 ∷ 123 ∷ 32 ∷ b) ≡ false
-    no_escape = go (eqb y 123)
-      where
-        go : (p : Bool) → ((p && true) && false) ≡ false
-        go true = refl
-        go false = refl
+    no_escape = grind (arith, nat_tests)
 
     alike : hides (raw_texts.Literal k true) (x ∷ y ∷ 123 ∷ 123 ∷ a) ≡ hides (raw_texts.Literal k true) (x ∷ y ∷ 123 ∷ 123 ∷ 32 ∷ b) → scan k true 0 (x ∷ y ∷ 123 ∷ 123 ∷ 32 ∷ b) ≡ 2
     alike h = step_stable k x (y ∷ 123 ∷ 123 ∷ a) (y ∷ 123 ∷ 123 ∷ 32 ∷ b) 1 h refl ih e
@@ -122,9 +107,8 @@ braces_two k x y a b ih e = by (escapes k.delimiter && eqb x 92) refl (is_interp
     by true h true g = absurd (far _ _ ((λ j. cond (h j) (cond (g j) 4 1) third)) e)
 
 same_after : (xs a b : List ℕ) → is_interpolation_start (xs ++ (123 ∷ 123 ∷ a)) ≡ is_interpolation_start (xs ++ (123 ∷ 123 ∷ b))
-same_after [] a b = refl
-same_after (x ∷ []) a b = refl
 same_after (x ∷ y ∷ xs) a b = refl
+same_after _ a b = refl
 
 part_stable : (k : StringKind) (hidden : ℕ) (inner a b : List ℕ) → scan k true hidden (inner ++ (123 ∷ 123 ∷ a)) ≡ length inner → scan k true hidden (inner ++ (123 ∷ 123 ∷ 32 ∷ b)) ≡ length inner
 unfolding pieces_len
@@ -142,14 +126,12 @@ part_stable k zero (x ∷ y ∷ z ∷ xs) a b e =
 -- ---- the braces that were cut off
 
 pub braces_front : (bs : List ℕ) → is_interpolation_start bs ≡ true → bs ≡ 123 ∷ 123 ∷ drop 2 bs
-braces_front [] h = cc
-braces_front (x ∷ []) h = let p = and_parts (eqb x 123) false h in cc
-braces_front (x ∷ y ∷ ys) h = let p = and_parts (eqb x 123) (eqb y 123) h in let a : x ≡ 123 = grind (arith, nat_tests) in let b : y ≡ 123 = grind (arith, nat_tests) in λ j. a j ∷ b j ∷ ys
+braces_front (x ∷ y ∷ ys) h = let a : x ≡ 123 = grind (arith, nat_tests) in let b : y ≡ 123 = grind (arith, nat_tests) in λ j. a j ∷ b j ∷ ys
+braces_front _ h = absurd (grind (arith, nat_tests))
 
 pub closers_front : (bs : List ℕ) → is_interpolation_end bs ≡ true → bs ≡ 125 ∷ 125 ∷ drop 2 bs
-closers_front [] h = cc
-closers_front (x ∷ []) h = let p = and_parts (eqb x 125) false h in cc
-closers_front (x ∷ y ∷ ys) h = let p = and_parts (eqb x 125) (eqb y 125) h in let a : x ≡ 125 = grind (arith, nat_tests) in let b : y ≡ 125 = grind (arith, nat_tests) in λ j. a j ∷ b j ∷ ys
+closers_front (x ∷ y ∷ ys) h = let a : x ≡ 125 = grind (arith, nat_tests) in let b : y ≡ 125 = grind (arith, nat_tests) in λ j. a j ∷ b j ∷ ys
+closers_front _ h = absurd (grind (arith, nat_tests))
 
 pub same_front : (a b c d : List ℕ) → a ++ b ≡ c ++ d → length a ≡ length c → (a ≡ c) × (b ≡ d)
 same_front a b c d e n = (sym (take_front a b) ∙ (λ i. take (n i) (e i)) ∙ take_front c d, sym (drop_front a b) ∙ (λ i. drop (n i) (e i)) ∙ drop_front c d)
@@ -179,10 +161,8 @@ part_cut k fin pre after tail stop l following split len =
 -- the kind of a format string is that of the first bytes, which are there
 start_kind : (d : StringDelimiter) (i : Bool) (inner a b : List ℕ)
     → kind_of ((delimiter_of (record { delimiter = d; indented = i }) ++ (inner ++ (123 ∷ 123 ∷ []))) ++ a) ≡ kind_of ((delimiter_of (record { delimiter = d; indented = i }) ++ (inner ++ (123 ∷ 123 ∷ []))) ++ b)
-start_kind d true inner a b = refl
-start_kind d false [] a b = refl
-start_kind d false (x ∷ []) a b = refl
 start_kind d false (x ∷ y ∷ xs) a b = refl
+start_kind d _ inner a b = refl
 
 pub start_opens : (k : StringKind) (l a b : List ℕ) → IsPart k (delimiter_of k) false l → kind_of (l ++ a) ≡ kind_of (l ++ b)
 start_opens k l a b h = ap (λ t. kind_of (t ++ a)) h.is ∙ start_kind k.delimiter k.indented h.inner a b ∙ sym (ap (λ t. kind_of (t ++ b)) h.is)

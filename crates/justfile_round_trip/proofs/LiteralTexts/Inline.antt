@@ -1,11 +1,12 @@
 -- Text that is printed inside a line lexes to the printer's tokens.
-use Rattle.std.proofs.Common.{◌≡◌, ◌≢◌, ℕ, suc, ◌+◌, Bool, true, false, cond, eqb, List, [], ◌∷◌, ◌++◌, length, get_or, Option, Some, None, Ok, refl, sym, ap, ◌∙◌, subst, arith, append_assoc, length-append}
+use Rattle.std.proofs.Common.{◌≡◌, ◌≢◌, ◌<◌, ℕ, zero, suc, ◌+◌, Bool, true, false, cond, eqb, ltb, List, [], ◌∷◌, ◌++◌, length, get_or, Option, Some, None, Ok, refl, sym, ap, ◌∙◌, subst, arith, append_assoc, length-append}
 use Rattle.std.specs.Prelude.{◌&&◌, not, is_some}
-use Rattle.std.specs.List.{prefix_len, count_by}
+use Rattle.std.specs.List.{AllByRecursion, prefix_len, count_by}
 use Rattle.std.proofs.lemmas.List.{append-nil}
-use Rattle.std.specs.Str.{bytes_eq}
+use Rattle.std.specs.Str.{IsUtf8, bytes_eq}
+use Rattle.std.proofs.lemmas.Str.{IsUtf8-from_ascii}
 use Rattle.std.proofs.lemmas.Bool.Decides.{nat_tests}
-use Rattle.std.proofs.lemmas.Bool.{and_parts}
+use Rattle.std.proofs.lemmas.Bool.{and_parts, false_from_ne_true, ne_eqb}
 use Rattle.std.proofs.Math.Bool.{and-false}
 use Rattle.justfile_vocabulary.specs.declared.byte_class.ByteClass.{ByteClass}
 use Rattle.justfile_vocabulary.specs.declared.byte_class.ByteClass.TheVariants as classes
@@ -25,12 +26,12 @@ use Rattle.justfile_model.specs.Lexing.Tok.{Tok}
 use Rattle.justfile_model.specs.Lexing.Places.{is_line_feed}
 use Rattle.justfile_model.specs.Lexing.Modes.{Mode, is_empty, opener, mode_after}
 use Rattle.justfile_model.specs.Lexing.Next.{token_by_class, token_within_line, next, literal_token, literal_part, is_backtick}
-use Rattle.justfile_round_trip.proofs.LiteralTexts.LexedModes.{Sign, sign, LexesTo, step, drop_front}
+use Rattle.justfile_model.proofs.Lexing.CutLemmas.{word_ascii}
+use Rattle.justfile_round_trip.proofs.LiteralTexts.LexedModes.{Sign, sign, placed, space, Lexes, text_of, step, drop_front}
 
 -- each byte passes
 abbrev pub Each : (ByteClass → Bool) → List ℕ → Type 0
-Each p [] = Unit {0}
-Each p (c ∷ cs) = (p (class_of c) ≡ true) × Each p cs
+Each p = AllByRecursion (λ b. p (class_of b) ≡ true)
 
 abbrev pub head_is : (ByteClass → Bool) → List ℕ → Bool
 head_is p [] = false
@@ -56,6 +57,29 @@ pub run_each : (p : ByteClass → Bool) (cs more : List ℕ) → Each p cs → h
 run_each p [] [] each stop = refl
 run_each p [] (d ∷ more) each stop = rw stop refl
 run_each p (c ∷ cs) more each stop = rw each.0 (let ih = run_each p cs more each.1 stop in omega (arith, ih))
+
+-- ---- ASCII is UTF-8
+
+pub each_utf8 : (P : ℕ → Type 0) → ((b : ℕ) → P b → b < 128) → (t : List ℕ) → AllByRecursion P t → IsUtf8 t
+each_utf8 P ascii t h = IsUtf8-from_ascii t (below t h)
+  where
+    below : (t : List ℕ) → AllByRecursion P t → (i : ℕ) → get_or t i 0 < 128
+    below [] each i = omega arith
+    below (b ∷ bs) each zero = ascii b each.0
+    below (b ∷ bs) each (suc i) = below bs each.1 i
+
+abbrev pub all_ascii : List ℕ → Bool
+all_ascii [] = true
+all_ascii (b ∷ bs) = ltb b 128 && all_ascii bs
+
+-- a fixed text
+pub fixed_utf8 : (t : List ℕ) → all_ascii t ≡ true → IsUtf8 t
+fixed_utf8 t h = IsUtf8-from_ascii t (below t h)
+  where
+    below : (t : List ℕ) → all_ascii t ≡ true → (i : ℕ) → get_or t i 0 < 128
+    below [] h i = omega arith
+    below (b ∷ bs) h zero = let p = and_parts (ltb b 128) (all_ascii bs) h in grind (arith, nat_tests)
+    below (b ∷ bs) h (suc i) = below bs (and_parts (ltb b 128) (all_ascii bs) h).1 i
 
 -- amid a line: outside bodies, or in an interpolation
 abbrev pub amid : List OpenDelimiter → List (List ℕ) → Bool → Option Tok → Bool → Mode
@@ -97,39 +121,56 @@ pub word_name : (w : List ℕ) → is_word w ≡ true → IsName w
 word_name [] h = cc
 word_name (b ∷ bs) h = let p = and_parts (starts (class_of b)) (all_word bs) h in (starts_name (class_of b) p.0, each_word bs p.1)
 
+-- the first byte of a name is no byte of another class
+pub start_no : (x y : ℕ) → class_of x ≡ classes.IdentifierStart → (class_of y ≡ classes.IdentifierStart → ⊥) → eqb x y ≡ false
+start_no x y h not = ne_eqb x y (λ e. not (subst (λ n. class_of n ≡ classes.IdentifierStart) e h))
+
 starts_no_brace : (x : ℕ) → class_of x ≡ classes.IdentifierStart → eqb x 125 ≡ false
 unfolding class_of
-starts_no_brace x h = go (eqb x 125) refl
-  where
-    go : (b : Bool) → eqb x 125 ≡ b → b ≡ false
-    go true e = let at : x ≡ 125 = grind (arith, nat_tests) in let h' : class_of 125 ≡ classes.IdentifierStart = subst (λ n. class_of n ≡ classes.IdentifierStart) at h in cc
-    go false e = refl
+starts_no_brace x h = start_no x 125 h (λ e. cc)
 
 pub and_false : (a b c : Bool) → b ≡ false → (a && (b && c)) ≡ false
-and_false true b c e = rw e refl
-and_false false b c e = refl
+and_false a b c e = rw e (and-false a)
+
+-- Text that goes on no word and no literal, and is lexed to these tokens after either: whether an `f` came last or not.
+pub record Goes (os : List OpenDelimiter) (ls : List (List ℕ)) (c : Bool) (i : Option Tok) (ts : List Sign) : Type 0 where
+  pub apart : head_is joins (text_of ts) ≡ false
+  pub lexes : (f : Bool) → Lexes (amid os ls c i f) ts
+
+pub goes : {os : List OpenDelimiter} {ls : List (List ℕ)} {c : Bool} {i : Option Tok} {ts : List Sign} → head_is joins (text_of ts) ≡ false → ((f : Bool) → Lexes (amid os ls c i f) ts) → Goes os ls c i ts
+goes apart lexes = record { apart = apart; lexes = lexes }
+
+-- a name, where the class of its first byte decides
+pub name_from : (m : Mode) (n : List ℕ) {ts : List Sign} → IsName n → head_is in_word (text_of ts) ≡ false
+    → ((x : ℕ) (xs : List ℕ) → class_of x ≡ classes.IdentifierStart → next m (x ∷ xs) ≡ token_by_class m (class_of x) (x ∷ xs))
+    → ((o l c : ℕ) → Lexes (mode_after Identifier (placed (sign Identifier n) o l c) m) ts) → Lexes m (sign Identifier n ∷ ts)
+unfolding token_by_class
+name_from m [] h stop found k = absurd h
+name_from m (x ∷ xs) {ts} h stop found k =
+    let word : Each in_word (x ∷ xs) = (ap in_word h.0, h.1) in
+    step m Identifier (x ∷ xs) ts (each_utf8 _ word_ascii (x ∷ xs) word)
+    (found x (xs ++ text_of ts) h.0
+    ∙ ap (λ q. token_by_class m q (x ∷ xs ++ text_of ts)) h.0
+    ∙ ap (λ n. Ok (Identifier, n)) (run_each in_word (x ∷ xs) (text_of ts) word stop))
+    (λ e. cc) k
 
 module _ {os : List OpenDelimiter} {ls : List (List ℕ)} {c : Bool} {i : Option Tok} {f : Bool} where
-  pub name_step : (n : List ℕ) {more : List ℕ} {ts : List Sign} → IsName n → head_is in_word more ≡ false → LexesTo (amid os ls c i (bytes_eq n (102 ∷ []))) more ts → LexesTo (amid os ls c i f) (n ++ more) (sign Identifier n ∷ ts)
-  unfolding token_by_class
-  name_step [] h stop k = absurd h
-  name_step (x ∷ xs) {more} {ts} h stop k =
-      let word : Each in_word (x ∷ xs) = (ap in_word h.0, h.1) in
-      step (amid os ls c i f) Identifier (x ∷ xs) more ts
-      (amid_next os ls c i f x (xs ++ more) (and_false (is_empty os) _ _ (starts_no_brace x h.0))
-      ∙ ap (λ q. token_by_class (amid os ls c i f) q (x ∷ xs ++ more)) h.0
-      ∙ ap (λ n. Ok (Identifier, n)) (run_each in_word (x ∷ xs) more word stop))
-      (λ e. cc) (λ o n col. k)
+  pub name_step : (n : List ℕ) {ts : List Sign} → IsName n → head_is in_word (text_of ts) ≡ false → Lexes (amid os ls c i (bytes_eq n (102 ∷ []))) ts → Lexes (amid os ls c i f) (sign Identifier n ∷ ts)
+  name_step n h stop k = name_from (amid os ls c i f) n h stop (λ x xs e. amid_next os ls c i f x xs (and_false (is_empty os) _ _ (starts_no_brace x e))) (λ o l col. k)
 
-  pub word_step : (w : List ℕ) {more : List ℕ} {ts : List Sign} → is_word w ≡ true → head_is in_word more ≡ false
-      → LexesTo (amid os ls c i (bytes_eq w (102 ∷ []))) more ts → LexesTo (amid os ls c i f) (w ++ more) (sign Identifier w ∷ ts)
+  -- before text that goes on no word
+  pub name_then : (n : List ℕ) {ts : List Sign} → IsName n → Goes os ls c i ts → Lexes (amid os ls c i f) (sign Identifier n ∷ ts)
+  name_then n {ts} h k = name_step n h (head_word (text_of ts) k.apart) (k.lexes _)
+
+  pub word_step : (w : List ℕ) {ts : List Sign} → is_word w ≡ true → head_is in_word (text_of ts) ≡ false
+      → Lexes (amid os ls c i (bytes_eq w (102 ∷ []))) ts → Lexes (amid os ls c i f) (sign Identifier w ∷ ts)
   word_step w h stop k = name_step w (word_name w h) stop k
 
-  pub space_step : {more : List ℕ} {ts : List Sign} → head_is blank more ≡ false → LexesTo (amid os ls c i false) more ts → LexesTo (amid os ls c i f) (32 ∷ more) (sign Whitespace (32 ∷ []) ∷ ts)
+  pub space_step : {ts : List Sign} → head_is blank (text_of ts) ≡ false → Lexes (amid os ls c i false) ts → Lexes (amid os ls c i f) (space ∷ ts)
   unfolding token_by_class class_of
-  space_step {more} {ts} stop k =
-      step (amid os ls c i f) Whitespace (32 ∷ []) more ts
-      (amid_next os ls c i f 32 more (and-false (is_empty os)) ∙ ap (λ n. Ok (Whitespace, n)) (run_each blank (32 ∷ []) more (refl, tt) stop))
+  space_step {ts} stop k =
+      step (amid os ls c i f) Whitespace (32 ∷ []) ts (fixed_utf8 (32 ∷ []) refl)
+      (amid_next os ls c i f 32 (text_of ts) (and-false (is_empty os)) ∙ ap (λ n. Ok (Whitespace, n)) (run_each blank (32 ∷ []) (text_of ts) (refl, tt) stop))
       (λ e. cc) (λ o n col. k)
 
 -- Literals.
@@ -140,11 +181,7 @@ abbrev pub delimiter_of : StringKind → List ℕ
 delimiter_of k = quote_of k.delimiter ∷ delimiter_tail k
 
 pub delimiter_length : (k : StringKind) → delimiter_len k ≡ length (delimiter_of k)
-delimiter_length k = go k.indented
-  where
-    go : (b : Bool) → cond b 3 1 ≡ suc (length (cond b (quote_of k.delimiter ∷ quote_of k.delimiter ∷ []) []))
-    go true = refl
-    go false = refl
+delimiter_length k = grind arith
 
 quote_class : (d : StringDelimiter) → class_of (quote_of d) ≡ classes.Quote
 unfolding class_of
@@ -217,20 +254,12 @@ literal_again m k l more f h stop =
     ∙ ap (λ n. Ok (token_kind_of k.delimiter, n)) len
 
 pub quote_is : (b : ℕ) → is_quote b ≡ true → class_of b ≡ classes.Quote
-quote_is b h = by (eqb b 96) (eqb b 34) refl refl
-  where
-    by : (s t : Bool) → eqb b 96 ≡ s → eqb b 34 ≡ t → class_of b ≡ classes.Quote
-    by true t e f = let at : b ≡ 96 = grind (arith, nat_tests) in ap class_of at ∙ quote_class delimiters.Backtick
-    by false true e f = let at : b ≡ 34 = grind (arith, nat_tests) in ap class_of at ∙ quote_class delimiters.QuoteDouble
-    by false false e f = let at : b ≡ 39 = grind (arith, nat_tests, h, e, f) in ap class_of at ∙ quote_class delimiters.QuoteSingle
+unfolding class_of
+quote_is b h = grind (arith, nat_tests)
 
 joins_quote : (more : List ℕ) → head_is joins more ≡ false → is_quote (get_or more 0 0) ≡ false
 joins_quote [] h = refl
-joins_quote (y ∷ ys) h = by (is_quote y) refl
-  where
-    by : (t : Bool) → is_quote y ≡ t → t ≡ false
-    by true e = let bad : true ≡ false = sym (ap joins (quote_is y e)) ∙ h in cc
-    by false e = refl
+joins_quote (y ∷ ys) h = false_from_ne_true (is_quote y) (λ e. let bad : true ≡ false = sym (ap joins (quote_is y e)) ∙ h in cc)
 
 kind_not_eof : (d : StringDelimiter) → token_kind_of d ≢ Eof
 kind_not_eof delimiters.Backtick e = cc
@@ -249,25 +278,27 @@ unfolding token_by_class class_of
 brace_next os ls c i k line xs = amid_next (opener (FormatString k) line ∷ os) ls c i false 125 (125 ∷ xs) refl
 
 module _ {os : List OpenDelimiter} {ls : List (List ℕ)} {c : Bool} {i : Option Tok} where
-  pub literal_step : (k : StringKind) (l more : List ℕ) {ts : List Sign} → IsLiteral k l → head_is joins more ≡ false → LexesTo (amid os ls c i false) more ts → LexesTo (amid os ls c i false) (l ++ more) (sign (token_kind_of k.delimiter) l ∷ ts)
-  literal_step k l more {ts} h stop r =
+  pub literal_step : (k : StringKind) (l : List ℕ) {ts : List Sign} → IsLiteral k l → IsUtf8 l → head_is joins (text_of ts) ≡ false → Lexes (amid os ls c i false) ts → Lexes (amid os ls c i false) (sign (token_kind_of k.delimiter) l ∷ ts)
+  literal_step k l {ts} h u stop r =
       let m : Mode = amid os ls c i false in
+      let more : List ℕ = text_of ts in
       let whole : l ++ more ≡ delimiter_of k ++ (h.inner ++ (delimiter_of k ++ more)) = ap (λ x. x ++ more) h.is ∙ assoc3 (delimiter_of k) h.inner (delimiter_of k) more in
-      step m (token_kind_of k.delimiter) l more ts
+      step m (token_kind_of k.delimiter) l ts u
       (ap (next m) whole ∙ literal_next os ls c i false k _ ∙ sym (ap (literal_token m) whole) ∙ literal_again m k l more refl h (joins_quote more stop))
       (kind_not_eof k.delimiter)
-      (λ o n col. subst (λ m. LexesTo m more ts) (sym (after_literal os ls c i k.delimiter false _)) r)
+      (λ o n col. subst (λ m. Lexes m ts) (sym (after_literal os ls c i k.delimiter false _)) r)
 
   -- after `f`: a format string without interpolations
-  pub whole_step : (k : StringKind) (l more : List ℕ) {ts : List Sign} → (h : IsLiteral k l) → ((more : List ℕ) → raw_len (raw_texts.Literal k true) (h.inner ++ (delimiter_of k ++ more)) ≡ length h.inner) → is_backtick k.delimiter ≡ false
-      → head_is joins more ≡ false → LexesTo (amid os ls c i false) more ts → LexesTo (amid os ls c i true) (l ++ more) (sign (token_kind_of k.delimiter) l ∷ ts)
-  whole_step k l more {ts} h ends quote stop r =
+  pub whole_step : (k : StringKind) (l : List ℕ) {ts : List Sign} → (h : IsLiteral k l) → IsUtf8 l → ((more : List ℕ) → raw_len (raw_texts.Literal k true) (h.inner ++ (delimiter_of k ++ more)) ≡ length h.inner) → is_backtick k.delimiter ≡ false
+      → head_is joins (text_of ts) ≡ false → Lexes (amid os ls c i false) ts → Lexes (amid os ls c i true) (sign (token_kind_of k.delimiter) l ∷ ts)
+  whole_step k l {ts} h u ends quote stop r =
       let m : Mode = amid os ls c i true in
+      let more : List ℕ = text_of ts in
       let inner = h.inner in
       let tail : List ℕ = inner ++ (delimiter_of k ++ more) in
       let whole : l ++ more ≡ delimiter_of k ++ tail = ap (λ x. x ++ more) h.is ∙ assoc3 (delimiter_of k) inner (delimiter_of k) more in
       let len = length3 (delimiter_of k) inner (delimiter_of k) (delimiter_len k) (sym (delimiter_length k)) ∙ ap length (sym h.is) in
-      step m (token_kind_of k.delimiter) l more ts
+      step m (token_kind_of k.delimiter) l ts u
       (ap (next m) whole
       ∙ literal_next os ls c i true k tail
       ∙ literal_of m k true tail (sym (ap kind_of whole) ∙ h.opens more (joins_quote more stop)) (ap not quote)
@@ -275,47 +306,50 @@ module _ {os : List OpenDelimiter} {ls : List (List ℕ)} {c : Bool} {i : Option
       ∙ ap (λ b. cond b (Ok (FormatStringStart, length (delimiter_of k) + length inner + 2)) (Ok (token_kind_of k.delimiter, length (delimiter_of k) + length inner + delimiter_len k))) (no_opening k.delimiter (delimiter_tail k ++ more))
       ∙ ap (λ n. Ok (token_kind_of k.delimiter, n)) len)
       (kind_not_eof k.delimiter)
-      (λ o n col. subst (λ m. LexesTo m more ts) (sym (after_literal os ls c i k.delimiter true _)) r)
+      (λ o n col. subst (λ m. Lexes m ts) (sym (after_literal os ls c i k.delimiter true _)) r)
 
   -- after f: up to two braces
-  pub start_step : (k : StringKind) (l more : List ℕ) {ts : List Sign} → IsPart k (delimiter_of k) false l → is_backtick k.delimiter ≡ false → ((more : List ℕ) → kind_of (l ++ more) ≡ k)
-      → ((line : ℕ) → LexesTo (amid (opener (FormatString k) line ∷ os) ls c i false) (32 ∷ more) ts) → LexesTo (amid os ls c i true) (l ++ (32 ∷ more)) (sign FormatStringStart l ∷ ts)
-  start_step k l more {ts} h quote opens r =
+  pub start_step : (k : StringKind) (l : List ℕ) {ts : List Sign} → IsPart k (delimiter_of k) false l → IsUtf8 l → is_backtick k.delimiter ≡ false → ((more : List ℕ) → kind_of (l ++ more) ≡ k)
+      → ((line : ℕ) → Lexes (amid (opener (FormatString k) line ∷ os) ls c i false) (space ∷ ts)) → Lexes (amid os ls c i true) (sign FormatStringStart l ∷ space ∷ ts)
+  start_step k l {ts} h u quote opens r =
       let inner = h.inner in
+      let more : List ℕ = text_of ts in
       let tail : List ℕ = inner ++ (123 ∷ 123 ∷ 32 ∷ more) in
       let whole : l ++ (32 ∷ more) ≡ delimiter_of k ++ tail = ap (λ x. x ++ (32 ∷ more)) h.is ∙ assoc3 (delimiter_of k) inner (123 ∷ 123 ∷ []) (32 ∷ more) in
       let len = length3 (delimiter_of k) inner (123 ∷ 123 ∷ []) 2 refl ∙ ap length (sym h.is) in
       let kind : kind_of l ≡ k = ap kind_of (sym (append-nil l)) ∙ opens [] in
-      step (amid os ls c i true) FormatStringStart l (32 ∷ more) ts
+      step (amid os ls c i true) FormatStringStart l (space ∷ ts) u
       (ap (next (amid os ls c i true)) whole
       ∙ literal_next os ls c i true k tail
       ∙ literal_of (amid os ls c i true) k true tail (sym (ap kind_of whole) ∙ opens (32 ∷ more)) (ap not quote)
       ∙ part_is k true (delimiter_of k) inner (123 ∷ 123 ∷ 32 ∷ more) FormatStringStart (token_kind_of k.delimiter) (h.ends more) refl
       ∙ ap (λ n. Ok (FormatStringStart, n)) len)
       (λ e. cc)
-      (λ o n col. subst (λ v. LexesTo (amid (opener (FormatString v) (n + count_by is_line_feed l) ∷ os) ls c i false) (32 ∷ more) ts) (sym kind) (r _))
+      (λ o n col. subst (λ v. Lexes (amid (opener (FormatString v) (n + count_by is_line_feed l) ∷ os) ls c i false) (space ∷ ts)) (sym kind) (r _))
 
-  pub continue_step : (k : StringKind) (line : ℕ) (l more : List ℕ) {ts : List Sign} → IsPart k (125 ∷ 125 ∷ []) false l
-      → LexesTo (amid (opener (FormatString k) line ∷ os) ls c i false) (32 ∷ more) ts → LexesTo (amid (opener (FormatString k) line ∷ os) ls c i false) (l ++ (32 ∷ more)) (sign FormatStringContinue l ∷ ts)
-  continue_step k line l more {ts} h r =
+  pub continue_step : (k : StringKind) (line : ℕ) (l : List ℕ) {ts : List Sign} → IsPart k (125 ∷ 125 ∷ []) false l → IsUtf8 l
+      → Lexes (amid (opener (FormatString k) line ∷ os) ls c i false) (space ∷ ts) → Lexes (amid (opener (FormatString k) line ∷ os) ls c i false) (sign FormatStringContinue l ∷ space ∷ ts)
+  continue_step k line l {ts} h u r =
       let inner = h.inner in
+      let more : List ℕ = text_of ts in
       let tail : List ℕ = inner ++ (123 ∷ 123 ∷ 32 ∷ more) in
       let m = amid (opener (FormatString k) line ∷ os) ls c i false in
       let whole : l ++ (32 ∷ more) ≡ 125 ∷ 125 ∷ tail = ap (λ x. x ++ (32 ∷ more)) h.is ∙ assoc3 (125 ∷ 125 ∷ []) inner (123 ∷ 123 ∷ []) (32 ∷ more) in
       let len = length3 (125 ∷ 125 ∷ []) inner (123 ∷ 123 ∷ []) 2 refl ∙ ap length (sym h.is) in
-      step m FormatStringContinue l (32 ∷ more) ts
+      step m FormatStringContinue l (space ∷ ts) u
       (ap (next m) whole ∙ brace_next os ls c i k line tail ∙ part_is k true (125 ∷ 125 ∷ []) inner (123 ∷ 123 ∷ 32 ∷ more) FormatStringContinue FormatStringEnd (h.ends more) refl ∙ ap (λ n. Ok (FormatStringContinue, n)) len)
       (λ e. cc) (λ o n col. r)
 
-  pub end_step : (k : StringKind) (line : ℕ) (l more : List ℕ) {ts : List Sign} → IsPart k (125 ∷ 125 ∷ []) true l
-      → LexesTo (amid os ls c i false) more ts → LexesTo (amid (opener (FormatString k) line ∷ os) ls c i false) (l ++ more) (sign FormatStringEnd l ∷ ts)
-  end_step k line l more {ts} h r =
+  pub end_step : (k : StringKind) (line : ℕ) (l : List ℕ) {ts : List Sign} → IsPart k (125 ∷ 125 ∷ []) true l → IsUtf8 l
+      → Lexes (amid os ls c i false) ts → Lexes (amid (opener (FormatString k) line ∷ os) ls c i false) (sign FormatStringEnd l ∷ ts)
+  end_step k line l {ts} h u r =
       let inner = h.inner in
+      let more : List ℕ = text_of ts in
       let tail : List ℕ = inner ++ (delimiter_of k ++ more) in
       let m = amid (opener (FormatString k) line ∷ os) ls c i false in
       let whole : l ++ more ≡ 125 ∷ 125 ∷ tail = ap (λ x. x ++ more) h.is ∙ assoc3 (125 ∷ 125 ∷ []) inner (delimiter_of k) more in
       let len = length3 (125 ∷ 125 ∷ []) inner (delimiter_of k) (delimiter_len k) (sym (delimiter_length k)) ∙ ap length (sym h.is) in
-      step m FormatStringEnd l more ts
+      step m FormatStringEnd l ts u
       (ap (next m) whole ∙ brace_next os ls c i k line tail ∙ part_is k true (125 ∷ 125 ∷ []) inner (delimiter_of k ++ more) FormatStringContinue FormatStringEnd (h.ends more) refl
       ∙ ap (λ b. cond b (Ok (FormatStringContinue, length {A = ℕ} (125 ∷ 125 ∷ []) + length inner + 2)) (Ok (FormatStringEnd, length {A = ℕ} (125 ∷ 125 ∷ []) + length inner + delimiter_len k))) (no_opening k.delimiter (delimiter_tail k ++ more))
       ∙ ap (λ n. Ok (FormatStringEnd, n)) len)

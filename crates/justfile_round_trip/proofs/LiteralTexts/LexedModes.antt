@@ -1,7 +1,9 @@
 -- Lexing by modes, where the mode after printed text is known except for positions.
 use Rattle.std.proofs.Common.{◌≡◌, ◌≢◌, ℕ, ◌+◌, List, [], ◌∷◌, ◌++◌, length, take, drop, Ok, refl, sym, ap, ◌∙◌, arith}
+use Rattle.std.specs.Str.{IsUtf8}
+use Rattle.std.proofs.lemmas.Str.{IsUtf8-append, IsUtf8-nil}
 use Rattle.justfile_vocabulary.specs.declared.token_kind.TokenKind.{TokenKind}
-use Rattle.justfile_vocabulary.specs.declared.token_kind.TokenKind.TheVariants.{Eof}
+use Rattle.justfile_vocabulary.specs.declared.token_kind.TokenKind.TheVariants.{Eof, Eol, Whitespace}
 use Rattle.justfile_model.specs.Lexing.Tok.{Tok}
 use Rattle.justfile_model.specs.Lexing.Places.{line_of_offset, column_at}
 use Rattle.justfile_model.specs.Lexing.Modes.{Mode, mode, start_mode, mode_after}
@@ -17,6 +19,13 @@ pub record Sign : Type 0 where
 
 abbrev pub sign : TokenKind → List ℕ → Sign
 sign k l = record { kind = k; lexeme = l }
+
+-- the signs that separate others
+abbrev pub space : Sign
+space = sign Whitespace (32 ∷ [])
+
+abbrev pub newline : Sign
+newline = sign Eol (10 ∷ [])
 
 abbrev pub placed : Sign → (offset line column : ℕ) → Tok
 placed t o l c = record { kind = t.kind; lexeme = t.lexeme; offset = o; line = l; column = c }
@@ -36,11 +45,27 @@ pub record LexesTo (m : Mode) (rest : List ℕ) (ts : List Sign) : Type 0 where
   pub is : (text : List ℕ) (offset : ℕ) → LexesIn text offset m rest ts
 
 -- one token, and the rest, at any position of the token
-pub step : (m : Mode) (k : TokenKind) (l following : List ℕ) (ts : List Sign) → next m (l ++ following) ≡ Ok (k, length l) → k ≢ Eof → ((o n c : ℕ) → LexesTo (mode_after k (placed (sign k l) o n c) m) following ts) → LexesTo m (l ++ following) (sign k l ∷ ts)
-step m k l following ts found goes_on more = record { is = λ text offset. (following, refl, found, goes_on, (more offset (line_of_offset text offset) (column_at text offset)).is text (offset + length l)) }
+pub step_to : (m : Mode) (k : TokenKind) (l following : List ℕ) (ts : List Sign) → next m (l ++ following) ≡ Ok (k, length l) → k ≢ Eof → ((o n c : ℕ) → LexesTo (mode_after k (placed (sign k l) o n c) m) following ts) → LexesTo m (l ++ following) (sign k l ∷ ts)
+step_to m k l following ts found goes_on more = record { is = λ text offset. (following, refl, found, goes_on, (more offset (line_of_offset text offset) (column_at text offset)).is text (offset + length l)) }
 
-pub end : (m : Mode) → next m [] ≡ Ok (Eof, 0) → LexesTo m [] []
-end m e = record { is = λ text offset. (refl, e) }
+-- the text of these tokens
+abbrev pub text_of : List Sign → List ℕ
+text_of [] = []
+text_of (t ∷ ts) = t.lexeme ++ text_of ts
+
+-- The text of these tokens is UTF-8, and it is lexed to them at any position.
+pub record Lexes (m : Mode) (ts : List Sign) : Type 0 where
+  pub to : LexesTo m (text_of ts) ts
+  pub utf8 : IsUtf8 (text_of ts)
+
+pub step : (m : Mode) (k : TokenKind) (l : List ℕ) (ts : List Sign) → IsUtf8 l → next m (l ++ text_of ts) ≡ Ok (k, length l) → k ≢ Eof → ((o n c : ℕ) → Lexes (mode_after k (placed (sign k l) o n c) m) ts) → Lexes m (sign k l ∷ ts)
+step m k l ts u found some more = record {
+  to = step_to m k l (text_of ts) ts found some (λ o n c. (more o n c).to);
+  utf8 = IsUtf8-append l (text_of ts) u (more 0 0 0).utf8;
+}
+
+pub end : (m : Mode) → next m [] ≡ Ok (Eof, 0) → Lexes m []
+end m e = record { to = record { is = λ text offset. (refl, e) }; utf8 = IsUtf8-nil }
 
 -- the tokens with their places
 abbrev pub toks : List ℕ → ℕ → List Sign → List Tok

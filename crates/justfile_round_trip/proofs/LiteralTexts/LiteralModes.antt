@@ -60,13 +60,11 @@ no_more p b h = ⊎_elim (λ e. omega (arith, e)) (λ e. omega (arith, e)) h
 
 first_end_from : (k : StringKind) (n m : ℕ) (bs : List ℕ) → Hidden n m bs → scan k true n bs ≡ min (scan k false m bs) (parted k n bs)
 unfolding pieces_len
-first_end_from k zero zero [] h = refl
-first_end_from k zero (suc m) [] h = absurd h
-first_end_from k (suc n) m [] h = refl
+first_end_from k zero (suc m) bs h = absurd h
+first_end_from k n m [] h = refl
 first_end_from k (suc n) zero (x ∷ bs) h =
     one_more _ _ _ (first_end_from k n 0 bs h.1) ∙ ap (λ p. min p (suc (parted k n bs))) (sym (ap (λ y. scan k false 0 (y ∷ bs)) h.0 ∙ no_brace k.delimiter k.indented bs))
 first_end_from k (suc n) (suc m) (x ∷ bs) h = one_more _ _ _ (first_end_from k n m bs h)
-first_end_from k zero (suc m) (x ∷ bs) h = absurd h
 first_end_from k zero zero (x ∷ bs) h =
     go (escapes k.delimiter && eqb x 92) (is_interpolation_escape bs) (is_interpolation_escape (x ∷ bs)) (is_delimiter k (x ∷ bs)) (is_interpolation_start (x ∷ bs))
     refl refl refl refl (λ n m. first_end_from k n m bs)
@@ -113,11 +111,9 @@ start_inside (a ∷ bs) (suc i) h = let ih = start_inside bs i h in omega (arith
 start_in_front : (bs : List ℕ) (i n : ℕ) → i + 1 < n → is_interpolation_start (drop i (take n bs)) ≡ is_interpolation_start (drop i bs)
 start_in_front bs i zero l = absurd (omega arith)
 start_in_front bs zero (suc zero) l = absurd (omega arith)
-start_in_front [] zero (suc (suc n)) l = refl
-start_in_front (a ∷ []) zero (suc (suc n)) l = refl
-start_in_front (a ∷ b ∷ bs) zero (suc (suc n)) l = refl
-start_in_front [] (suc i) (suc n) l = refl
 start_in_front (a ∷ bs) (suc i) (suc n) l = start_in_front bs i n (omega arith)
+start_in_front (a ∷ b ∷ bs) zero (suc (suc n)) l = refl
+start_in_front _ i n l = refl
 
 no_start_at : (bs : List ℕ) (i : ℕ) → has_no_start bs ≡ true → is_interpolation_start (drop i bs) ≡ false
 no_start_at [] zero h = refl

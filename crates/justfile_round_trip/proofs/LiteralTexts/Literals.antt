@@ -1,5 +1,5 @@
 -- A literal that was lexed ends at the same position before any text that can be printed after it.
-use Rattle.std.proofs.Common.{◌≡◌, ℕ, zero, suc, ◌<◌, Bool, true, false, cond, eqb, ltb, List, [], ◌∷◌, ◌++◌, length, get_or, drop, refl, sym, ap, ◌∙◌, subst, arith}
+use Rattle.std.proofs.Common.{◌≡◌, ℕ, zero, suc, ◌<◌, Bool, true, false, cond, eqb, ltb, List, [], ◌∷◌, ◌++◌, length, get_or, drop, refl, ap, ◌∙◌, subst, arith}
 use Rattle.std.specs.Prelude.{◌&&◌, ◌||◌}
 use Rattle.std.proofs.lemmas.Bool.{and_parts}
 use Rattle.std.proofs.lemmas.Bool.Decides.{nat_tests}
@@ -32,12 +32,7 @@ either b true f g = f refl
 either b false f g = g refl
 
 quoted : (b : ℕ) → (eqb b 39 || eqb b 34 || eqb b 96) ≡ true → quote_of (delimiter_at b) ≡ b
-quoted b h = by (eqb b 96) (eqb b 34) refl refl
-  where
-    by : (s t : Bool) → eqb b 96 ≡ s → eqb b 34 ≡ t → quote_of (cond s delimiters.Backtick (cond t delimiters.QuoteDouble delimiters.QuoteSingle)) ≡ b
-    by true t e f = grind (arith, nat_tests)
-    by false true e f = grind (arith, nat_tests)
-    by false false e f = grind (arith, nat_tests)
+quoted b h = grind (arith, nat_tests)
 
 is_of_class : (b : ℕ) → IsOfClass b (class_of b)
 unfolding class_of
@@ -65,10 +60,7 @@ quote_positive _ = omega arith
 
 -- if the byte at the front isn't 0, the text begins with it
 pub front_byte : (bs : List ℕ) (q : ℕ) → 0 < q → eqb (get_or bs 0 0) q ≡ true → bs ≡ q ∷ drop 1 bs
-front_byte [] q p h = absurd (no_zero q p h)
-  where
-    no_zero : (q : ℕ) → 0 < q → eqb 0 q ≡ true → ⊥
-    no_zero q p h = grind (arith, nat_tests)
+front_byte [] q p h = absurd (grind (arith, nat_tests))
 front_byte (x ∷ xs) q p h = let e : x ≡ q = grind (arith, nat_tests) in ap (λ y. y ∷ xs) e
 
 -- where a delimiter is at the front, its bytes are
@@ -92,23 +84,7 @@ delimiter_front k bs h = go k.indented h
 
 -- a text that begins with a quote begins with the delimiter of its kind
 pub delimiter_there : (bs : List ℕ) → class_of (get_or bs 0 0) ≡ classes.Quote → is_delimiter (kind_of bs) bs ≡ true
-delimiter_there bs e = go (eqb (get_or bs 1 0) (get_or bs 0 0) && eqb (get_or bs 2 0) (get_or bs 0 0)) refl
-  where
-    q : ℕ
-    q = quote_of (delimiter_at (get_or bs 0 0))
-
-    is : q ≡ get_or bs 0 0
-    is = quote_byte (get_or bs 0 0) e
-
-    all : (a b c q : ℕ) → q ≡ a → (eqb b a && eqb c a) ≡ true → (eqb a q && eqb b q && eqb c q) ≡ true
-    all a b c q e h = grind (arith, nat_tests)
-
-    one : (a q : ℕ) → q ≡ a → eqb a q ≡ true
-    one a q e = grind (arith, nat_tests)
-
-    go : (t : Bool) → (eqb (get_or bs 1 0) (get_or bs 0 0) && eqb (get_or bs 2 0) (get_or bs 0 0)) ≡ t → cond t (eqb (get_or bs 0 0) q && eqb (get_or bs 1 0) q && eqb (get_or bs 2 0) q) (eqb (get_or bs 0 0) q) ≡ true
-    go true h = all _ _ _ q is h
-    go false h = one _ q is
+delimiter_there bs e = let is = quote_byte (get_or bs 0 0) e in grind (arith, nat_tests)
 
 -- ---- scans
 
@@ -124,10 +100,8 @@ delimiter_ends _ _ more = refl
 
 -- whether a delimiter begins inside or at the end of the text is seen from the text and the delimiter after it
 pub same_delimiter : (d : StringDelimiter) (i : Bool) (x : ℕ) (xs a b : List ℕ) → is_delimiter (record { delimiter = d; indented = i }) (x ∷ xs ++ (delimiter_of (record { delimiter = d; indented = i }) ++ a)) ≡ is_delimiter (record { delimiter = d; indented = i }) (x ∷ xs ++ (delimiter_of (record { delimiter = d; indented = i }) ++ b))
-same_delimiter d false x xs a b = refl
-same_delimiter d true x [] a b = refl
-same_delimiter d true x (y ∷ []) a b = refl
 same_delimiter d true x (y ∷ z ∷ zs) a b = refl
+same_delimiter d _ x xs a b = refl
 
 -- a text that is scanned up to the delimiter is scanned up to it before any other text
 pub stable : (k : StringKind) (hidden : ℕ) (inner a b : List ℕ) → scan k false hidden (inner ++ (delimiter_of k ++ a)) ≡ length inner → scan k false hidden (inner ++ (delimiter_of k ++ b)) ≡ length inner
@@ -136,18 +110,7 @@ stable k zero [] a b e = delimiter_ends k.delimiter k.indented b
 stable k (suc n) [] a b e = absurd (omega arith)
 stable k (suc n) (x ∷ xs) a b e = ap suc (stable k n xs a b (omega arith))
 stable k zero (x ∷ xs) a b e =
-    go (ltb 0 (hides (raw_texts.Literal k false) (x ∷ xs))) (is_delimiter k (x ∷ xs ++ (delimiter_of k ++ a))) (is_delimiter k (x ∷ xs ++ (delimiter_of k ++ b))) (same_delimiter k.delimiter k.indented x xs a b)
-    (stable k (hides (raw_texts.Literal k false) (x ∷ xs)) xs a b) (stable k 0 xs a b) e
-  where
-    h : ℕ
-    h = hides (raw_texts.Literal k false) (x ∷ xs)
-
-    go : (t s r : Bool) → s ≡ r → (scan k false h (xs ++ (delimiter_of k ++ a)) ≡ length xs → scan k false h (xs ++ (delimiter_of k ++ b)) ≡ length xs) → (scan k false 0 (xs ++ (delimiter_of k ++ a)) ≡ length xs → scan k false 0 (xs ++ (delimiter_of k ++ b)) ≡ length xs)
-        → cond t (suc (scan k false h (xs ++ (delimiter_of k ++ a)))) (cond (s || false) 0 (suc (scan k false 0 (xs ++ (delimiter_of k ++ a))))) ≡ suc (length xs)
-        → cond t (suc (scan k false h (xs ++ (delimiter_of k ++ b)))) (cond (r || false) 0 (suc (scan k false 0 (xs ++ (delimiter_of k ++ b))))) ≡ suc (length xs)
-    go true s r same ih i0 e = ap suc (ih (omega arith))
-    go false true r same ih i0 e = absurd (omega arith)
-    go false false r same ih i0 e = ap (λ v. cond (v || false) 0 (suc (scan k false 0 (xs ++ (delimiter_of k ++ b))))) (sym same) ∙ ap suc (i0 (omega arith))
+    grind (arith, same_delimiter k.delimiter k.indented x xs a b, stable k (hides (raw_texts.Literal k false) (x ∷ xs)) xs a b, stable k 0 xs a b)
 
 -- ---- the kind of a literal
 

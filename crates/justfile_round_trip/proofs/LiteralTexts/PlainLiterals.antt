@@ -1,13 +1,13 @@
 -- Literals that the printer makes itself, of digits or capital letters between quotes, are good.
-use Rattle.std.proofs.Common.{◌≡◌, ℕ, suc, zero, ◌<◌, ◌^◌, Bool, true, false, cond, eqb, ltb, List, [], ◌∷◌, ◌++◌, length, get_or, refl, sym, ap, ◌∙◌, subst, arith, append_assoc, codes}
+use Rattle.std.proofs.Common.{◌≡◌, ℕ, suc, ◌<◌, ◌^◌, Bool, true, false, cond, eqb, ltb, List, [], ◌∷◌, ◌++◌, length, get_or, refl, ap, ◌∙◌, subst, arith, codes}
 use Rattle.std.specs.Prelude.{◌&&◌, ◌||◌}
 use Rattle.std.specs.Fmt.{decimal}
 use Rattle.std.specs.Str.{IsUtf8}
 use Rattle.std.specs.Str.Parse.{AllDigits}
-use Rattle.std.proofs.lemmas.Bool.{and_parts, and_right}
+use Rattle.std.proofs.lemmas.Bool.{and_right}
 use Rattle.std.proofs.lemmas.Bool.Decides.{nat_tests}
 use Rattle.std.proofs.lemmas.Fmt.{decimal_is_IsNumeral}
-use Rattle.std.proofs.lemmas.Str.{IsUtf8-append, IsUtf8-from_ascii}
+use Rattle.std.proofs.lemmas.Str.{IsUtf8-append}
 use Rattle.std.proofs.lemmas.Str.Parse.{digit_from_value}
 use Rattle.std.specs.List.{AllByRecursion}
 use Rattle.justfile_vocabulary.specs.declared.signal.Signal.{Signal}
@@ -26,11 +26,12 @@ use Rattle.justfile_model.specs.Trees.Tree.{lexeme, nothing}
 use Rattle.justfile_model.specs.Grammars.Expressions as g
 use Rattle.justfile_model.specs.Grammars.Expressions.{BelowLimit, Expression}
 use Rattle.justfile_round_trip.proofs.LiteralTexts.LexedModes.{sign, placed}
+use Rattle.justfile_round_trip.proofs.LiteralTexts.Inline.{each_utf8, fixed_utf8}
 use Rattle.justfile_round_trip.proofs.LiteralTexts.Literals.{scan, delimiter_ends, no_quote}
 use Rattle.justfile_round_trip.proofs.Canon as canon
 use Rattle.justfile_round_trip.proofs.Canon.{paren_right}
 use Rattle.justfile_round_trip.proofs.Good.{IsDelimited, IsString, GoodExpression, significant}
-use Rattle.justfile_round_trip.proofs.Values.WrittenValues.{plain, stops}
+use Rattle.justfile_round_trip.proofs.Values.WrittenValues.{stops}
 use Rattle.justfile_round_trip.proofs.Back.{expression_back, lower}
 
 -- ---- bytes that are a digit or a capital letter
@@ -83,23 +84,18 @@ plain_delimited d inner h = record {
   is_token = refl;
 }
 
-plain_utf8 : (inner more : List ℕ) → AllPlain inner → IsUtf8 more → IsUtf8 (inner ++ more)
-plain_utf8 inner more h u = IsUtf8-append inner more (IsUtf8-from_ascii inner (low inner h)) u
-  where
-    low : (bs : List ℕ) → AllPlain bs → (i : ℕ) → get_or bs i 0 < 128
-    low [] h i = omega arith
-    low (b ∷ bs) h zero = let below = h.0.below in omega arith
-    low (b ∷ bs) h (suc i) = low bs h.1 i
+plain_utf8 : (inner : List ℕ) → AllPlain inner → IsUtf8 inner
+plain_utf8 inner h = each_utf8 IsPlain (λ b h. let below = h.below in omega arith) inner h
 
-quote_utf8 : (d : StringDelimiter) (more : List ℕ) → IsUtf8 more → IsUtf8 (quote_of d ∷ more)
-quote_utf8 delimiters.Backtick more u = plain (codes "`") more refl u
-quote_utf8 d more u = plain (quote_of d ∷ []) more refl u
+quote_utf8 : (d : StringDelimiter) → IsUtf8 (quote_of d ∷ [])
+quote_utf8 delimiters.Backtick = fixed_utf8 (codes "`") refl
+quote_utf8 d = fixed_utf8 (quote_of d ∷ []) refl
 
 -- ---- as values
 
 -- the limit of a good expression is above 0
 pub some_limit : {limit : ℕ} {e : canon.Value} → GoodExpression limit e → 0 < limit
-some_limit h = by (h.derives.derives false (paren_right ∷ []) refl)
+some_limit h = by (h.derives false (paren_right ∷ []) refl)
   where
     by : {limit : ℕ} {e : canon.Value} {fs : canon.Shown} {ts rest : g.Tokens} → Expression lexeme nothing (BelowLimit limit) false 0 e fs ts rest → 0 < limit
     by (g.or o l kind r) = o
@@ -117,24 +113,20 @@ literal_derives limit l some =
     (g.comparison (g.conjunct (g.value (λ w. let bad = w.is_name in cc) (g.literal refl) (record { join = tt; list_concatenation = tt; concatenation = tt }))
     (record { equality = tt; inequality = tt; regex_match = tt; regex_mismatch = tt })) tt) tt
 
-pub literal_good : (limit : ℕ) (l : List ℕ) → 0 < limit → IsString l → ((more : List ℕ) → IsUtf8 more → IsUtf8 (l ++ more))
-    → GoodExpression limit (tree.StringLiteral false l)
+pub literal_good : (limit : ℕ) (l : List ℕ) → 0 < limit → IsString l → IsUtf8 l → GoodExpression limit (tree.StringLiteral false l)
 literal_good limit l some string utf8 = record {
-  lexes = string;
+  lexes = (string, utf8);
   features = [];
-  derives = record {
-    derives = λ glued on stop.
-        let q = stops _ (significant true on) stop in
-        expression_back (BelowLimit limit) (BelowLimit limit) (lower limit) (literal_derives limit l some) 0 (omega arith) glued on q.0 q.1;
-  };
-  utf8 = utf8;
+  derives = λ glued on stop.
+      let q = stops _ (significant true on) stop in
+      expression_back (BelowLimit limit) (BelowLimit limit) (lower limit) (literal_derives limit l some) 0 (omega arith) glued on q.0 q.1;
 }
 
 quoted_good : (limit : ℕ) (d : StringDelimiter) (inner : List ℕ) → token_kind_of d ≡ kinds.StringToken → 0 < limit → AllPlain inner
     → GoodExpression limit (tree.StringLiteral false (quoted d inner))
 quoted_good limit d inner string some h =
     literal_good limit (quoted d inner) some (subst (λ k. IsDelimited k (quoted d inner)) string (plain_delimited d inner h))
-    (λ more u. quote_utf8 d _ (subst IsUtf8 (sym (append_assoc inner (quote_of d ∷ []) more)) (plain_utf8 inner _ h (quote_utf8 d more u))))
+    (IsUtf8-append (quote_of d ∷ []) _ (quote_utf8 d) (IsUtf8-append inner _ (plain_utf8 inner h) (quote_utf8 d)))
 
 digits_plain : (ds : List ℕ) → AllDigits 10 ds → AllPlain ds
 digits_plain [] d = tt
@@ -151,10 +143,7 @@ capitals (b ∷ bs) = ltb 64 b && (ltb b 91 && capitals bs)
 
 capitals_plain : (bs : List ℕ) → capitals bs ≡ true → AllPlain bs
 capitals_plain [] h = tt
-capitals_plain (b ∷ bs) h =
-    let p = and_parts (ltb 64 b) _ h in
-    let q = and_parts (ltb b 91) (capitals bs) p.1 in
-    (record { above = grind (arith, nat_tests, p.0); below = grind (arith, nat_tests, q.0) }, capitals_plain bs q.1)
+capitals_plain (b ∷ bs) h = (record { above = grind (arith, nat_tests); below = grind (arith, nat_tests) }, capitals_plain bs (grind arith))
 
 signal_plain : (s : Signal) → AllPlain (signal_name s)
 signal_plain Hangup = capitals_plain (signal_name Hangup) refl

@@ -1,7 +1,7 @@
 -- Text of a body: where it ends before another text, and what it contains.
-use Rattle.std.proofs.Common.{◌≡◌, ℕ, zero, suc, Bool, true, false, cond, eqb, ltb, List, [], ◌∷◌, ◌++◌, length, get_or, drop, refl, sym, ap, ◌∙◌, subst, arith}
-use Rattle.std.specs.Prelude.{◌&&◌, ◌||◌, not}
-use Rattle.std.proofs.lemmas.Bool.{and_parts, or_parts}
+use Rattle.std.proofs.Common.{◌≡◌, ℕ, zero, suc, Bool, true, false, cond, eqb, ltb, List, [], ◌∷◌, ◌++◌, length, drop, refl, sym, ap, ◌∙◌, subst, arith}
+use Rattle.std.specs.Prelude.{◌||◌, not}
+use Rattle.std.proofs.lemmas.Bool.{or_parts, false_from_ne_true}
 use Rattle.std.proofs.lemmas.Bool.Decides.{nat_tests}
 use Rattle.std.proofs.Math.Numerals.{one-add}
 use Rattle.justfile_vocabulary.specs.ByteClass.{class_of}
@@ -26,18 +26,8 @@ Braces (suc n) [] = ⊥
 Braces (suc n) (b ∷ bs) = (b ≡ 123) × Braces n bs
 
 pub four_braces : (bs : List ℕ) → is_interpolation_escape bs ≡ true → Braces 4 bs
-four_braces [] h = cc
-four_braces (a ∷ []) h = let p = (and_parts (eqb a 123 && false) _ h).0 in let q = (and_parts (eqb a 123) false p).1 in cc
-four_braces (a ∷ b ∷ []) h = let p = (and_parts (eqb a 123 && eqb b 123) false h).1 in cc
-four_braces (a ∷ b ∷ c ∷ []) h = let p = (and_parts (eqb c 123) false (and_parts (eqb a 123 && eqb b 123) (eqb c 123 && false) h).1).1 in cc
-four_braces (a ∷ b ∷ c ∷ d ∷ bs) h =
-    let fronts = and_parts (eqb a 123 && eqb b 123) (eqb c 123 && eqb d 123) h in
-    let first = and_parts (eqb a 123) (eqb b 123) fronts.0 in
-    let last = and_parts (eqb c 123) (eqb d 123) fronts.1 in
-    (is a first.0, (is b first.1, (is c last.0, (is d last.1, tt))))
-  where
-    is : (x : ℕ) → eqb x 123 ≡ true → x ≡ 123
-    is x e = grind (arith, nat_tests)
+four_braces (a ∷ b ∷ c ∷ d ∷ bs) h = (grind (arith, nat_tests), (grind (arith, nat_tests), (grind (arith, nat_tests), (grind (arith, nat_tests), tt))))
+four_braces _ h = absurd (grind (arith, nat_tests))
 
 three_braces : (b : ℕ) (bs : List ℕ) → Braces 4 (b ∷ bs) → (b ≡ 123) × Braces 3 bs
 three_braces b bs h = (h.0, h.1)
@@ -80,10 +70,7 @@ unfolding class_of
 brace_no_feed b e = ap (λ x. not (line_feed (class_of x))) e
 
 byte_no_feed : (b : ℕ) (bs : List ℕ) → ends raw_texts.Body (b ∷ bs) ≡ false → not (line_feed (class_of b)) ≡ true
-byte_no_feed b bs h =
-    let line = (or_parts (is_line_end (b ∷ bs)) (is_interpolation_start (b ∷ bs)) h).0 in
-    let feed = (or_parts (eqb b 10) (eqb b 13 && eqb (get_or bs 0 0) 10) line).0 in
-    ap not (sym (is_line_feed b (class_of b) refl) ∙ feed)
+byte_no_feed b bs h = grind (arith, nat_tests, is_line_feed b (class_of b) refl)
 
 no_feed_from : (n : ℕ) (t a : List ℕ) → Braces n (t ++ a) → scan n (t ++ a) ≡ length t → NoFeed t
 no_feed_from n [] a h e = tt
@@ -102,10 +89,14 @@ raw_no_feed t stop h = no_feed_from 0 t (stop ++ []) tt (h.ends [])
 
 -- ---- no text directly follows a text
 
+-- a scan doesn't end at a brace that is hidden
+short : (n : ℕ) (a : List ℕ) → Braces (suc n) a → scan (suc n) a ≡ 0 → ⊥
+short n [] h e = h
+short n (x ∷ a) h e = omega (arith, e, scan_past n x a)
+
 rest_from : (n : ℕ) (t following : List ℕ) → Braces n (t ++ following) → scan n (t ++ following) ≡ length t → scan 0 following ≡ 0
 rest_from zero [] following h e = e
-rest_from (suc n) [] [] h e = absurd h
-rest_from (suc n) [] (x ∷ following) h e = absurd (omega (arith, e, scan_past n x following))
+rest_from (suc n) [] following h e = absurd (short n following h e)
 rest_from (suc n) (x ∷ xs) following h e = rest_from n xs following h.1 (omega (arith, e, scan_past n x (xs ++ following)))
 rest_from zero (x ∷ xs) following h e = go (is_interpolation_escape (x ∷ xs ++ following)) (scanned x (xs ++ following) (length xs) e) (λ n. rest_from n xs following)
   where
@@ -132,16 +123,12 @@ after_first_byte b bs n h e =
 
 -- text does not begin with a line end
 pub text_no_end : (b : ℕ) (bs : List ℕ) (n : ℕ) → scan 0 (b ∷ bs) ≡ suc n → begins_blank_line (b ∷ bs) ≡ false
-text_no_end b bs n e = by (is_line_end (b ∷ bs)) refl
-  where
-    by : (t : Bool) → is_line_end (b ∷ bs) ≡ t → (t || false) ≡ false
-    by true g =
-        let line = (or_parts (is_line_end (b ∷ bs)) (is_interpolation_start (b ∷ bs)) (after_first_byte b bs n (line_no_brace b bs g) e).0).0 in
-        let bad : true ≡ false = sym g ∙ line in
-        cc
-    by false g = refl
+text_no_end b bs n e =
+    ap (λ t. t || false)
+    (false_from_ne_true (is_line_end (b ∷ bs))
+    (λ g. let bad : true ≡ false = sym g ∙ (or_parts (is_line_end (b ∷ bs)) (is_interpolation_start (b ∷ bs)) (after_first_byte b bs n (line_no_brace b bs g) e).0).0 in cc))
 
-one_more : (b : ℕ) (bs : List ℕ) → blank (class_of b) ≡ true → blank_len (b ∷ bs) ≡ suc (blank_len bs)
+pub one_more : (b : ℕ) (bs : List ℕ) → blank (class_of b) ≡ true → blank_len (b ∷ bs) ≡ suc (blank_len bs)
 one_more b bs h = rw h (one-add (blank_len bs))
 
 none_more : (b : ℕ) (bs : List ℕ) → blank (class_of b) ≡ false → blank_len (b ∷ bs) ≡ 0
@@ -173,21 +160,9 @@ module _ (a b : List ℕ) where
   last_after c (d ∷ u) h = h
 
   same_hidden : (c : ℕ) (u : List ℕ) → Braces 3 (u ++ a) → scan 3 (u ++ a) ≡ length u → is_interpolation_escape (c ∷ u ++ a) ≡ is_interpolation_escape (c ∷ u ++ b)
-  same_hidden c [] h e = absurd (short a h e)
-    where
-      short : (a : List ℕ) → Braces 3 a → scan 3 a ≡ 0 → ⊥
-      short [] h e = h
-      short (x ∷ a) h e = omega (arith, e, scan_past 2 x a)
-  same_hidden c (x ∷ []) h e = absurd (short a h.1 (omega (arith, e, scan_past 2 x a)))
-    where
-      short : (a : List ℕ) → Braces 2 a → scan 2 a ≡ 0 → ⊥
-      short [] h e = h
-      short (x ∷ a) h e = omega (arith, e, scan_past 1 x a)
-  same_hidden c (x ∷ y ∷ []) h e = absurd (short a h.1.1 (omega (arith, e, scan_past 2 x (y ∷ a), scan_past 1 y a)))
-    where
-      short : (a : List ℕ) → Braces 1 a → scan 1 a ≡ 0 → ⊥
-      short [] h e = h
-      short (x ∷ a) h e = omega (arith, e, scan_past 0 x a)
+  same_hidden c [] h e = absurd (short 2 a h e)
+  same_hidden c (x ∷ []) h e = absurd (short 1 a h.1 (omega (arith, e, scan_past 2 x a)))
+  same_hidden c (x ∷ y ∷ []) h e = absurd (short 0 a h.1.1 (omega (arith, e, scan_past 2 x (y ∷ a), scan_past 1 y a)))
   same_hidden c (x ∷ y ∷ z ∷ u) h e = refl
 
   keeps_end : (c : ℕ) (u : List ℕ) → LastKeeps (c ∷ u) → ends raw_texts.Body (c ∷ u ++ a) ≡ false → ends raw_texts.Body (c ∷ u ++ b) ≡ false
@@ -199,11 +174,7 @@ module _ (a b : List ℕ) where
 
   stable : (n : ℕ) (u : List ℕ) → scan 0 b ≡ 0 → LastKeeps u → Braces n (u ++ a) → scan n (u ++ a) ≡ length u → scan n (u ++ b) ≡ length u
   stable zero [] here keeps h e = here
-  stable (suc n) [] here keeps h e = absurd (short a h e)
-    where
-      short : (a : List ℕ) → Braces (suc n) a → scan (suc n) a ≡ 0 → ⊥
-      short [] h e = h
-      short (x ∷ a) h e = omega (arith, e, scan_past n x a)
+  stable (suc n) [] here keeps h e = absurd (short n a h e)
   stable (suc n) (x ∷ xs) here keeps h e =
       scan_past n x (xs ++ b) ∙ ap suc (stable n xs here (last_after x xs keeps) h.1 (omega (arith, e, scan_past n x (xs ++ a))))
   stable zero (x ∷ xs) here keeps h e = go (is_interpolation_escape (x ∷ xs ++ a)) (scanned x (xs ++ a) (length xs) e) (λ n. stable n xs here (last_after x xs keeps))
@@ -218,26 +189,12 @@ module _ (a b : List ℕ) where
 
 newline_keeps : (a more u : List ℕ) → ends_in_return u ≡ false → LastKeeps a (10 ∷ more) u
 newline_keeps a more [] h = tt
-newline_keeps a more (c ∷ []) h = λ e. keeps (eqb c 10) (eqb c 13) (eqb c 123) h e
-  where
-    keeps : (l r s : Bool) → r ≡ false → ((l || (r && eqb (get_or a 0 0) 10)) || (s && eqb (get_or a 0 0) 123)) ≡ false → ((l || (r && true)) || (s && false)) ≡ false
-    keeps true r s h e = cc
-    keeps false true s h e = cc
-    keeps false false true h e = refl
-    keeps false false false h e = refl
+newline_keeps a more (c ∷ []) h = λ e. grind (arith, nat_tests)
 newline_keeps a more (c ∷ d ∷ u) h = newline_keeps a more (d ∷ u) h
 
 braces_keep : (a more u : List ℕ) → is_interpolation_start a ≡ true → LastKeeps a (123 ∷ 123 ∷ 32 ∷ more) u
 braces_keep a more [] h = tt
-braces_keep a more (c ∷ []) h = λ e. keeps (eqb c 10) (eqb c 13) (eqb c 123) (eqb (get_or a 0 0) 10) (eqb (get_or a 0 0) 123) (and_parts (eqb (get_or a 0 0) 123) (eqb (get_or a 1 0) 123) h).0 e
-  where
-    keeps : (l r s n b : Bool) → b ≡ true → ((l || (r && n)) || (s && b)) ≡ false → ((l || (r && false)) || (s && true)) ≡ false
-    keeps true r s n b h e = cc
-    keeps false true true n true h e = let p = (or_parts (n) true e).1 in cc
-    keeps false true false n true h e = refl
-    keeps false false true n true h e = cc
-    keeps false false false n true h e = refl
-    keeps l r s n false h e = cc
+braces_keep a more (c ∷ []) h = λ e. grind (arith, nat_tests)
 braces_keep a more (c ∷ d ∷ u) h = braces_keep a more (d ∷ u) h
 
 newline_ends : (more : List ℕ) → scan 0 (10 ∷ more) ≡ 0

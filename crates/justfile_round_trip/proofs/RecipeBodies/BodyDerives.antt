@@ -3,8 +3,8 @@ use Rattle.std.proofs.Common.{ℕ, Bool, true, false, List, [], ◌∷◌, ◌++
 use Rattle.justfile_vocabulary.specs.declared.token_kind.TokenKind.TheVariants as kinds
 use Rattle.justfile_model.specs.Trees.Tree.{Text, Interpolation, Line}
 use Rattle.justfile_model.specs.Grammars.Grammar as g
-use Rattle.justfile_round_trip.proofs.LiteralTexts.LexedModes.{Sign, sign}
-use Rattle.justfile_round_trip.proofs.Canon.{Shown, Fragment, ShapeLine, newline, fragments_signs, lines_signs}
+use Rattle.justfile_round_trip.proofs.LiteralTexts.LexedModes.{Sign, sign, newline}
+use Rattle.justfile_round_trip.proofs.Canon.{Shown, Fragment, ShapeLine, fragments_signs, lines_signs}
 use Rattle.justfile_round_trip.proofs.Good.{GoodFragments, GoodLines, GoodBody, significant}
 use Rattle.justfile_round_trip.proofs.RecipeBodies.BodyGood.{Tokens, LineOf, LinesOf}
 
@@ -15,7 +15,7 @@ module _ (limit : ℕ) where
   line_back glued (Text t ∷ []) ts h = let r = line_back true [] ts tt in (r.0, g.text refl r.1)
   line_back glued (Text t ∷ Text u ∷ fs) ts h = absurd h
   line_back glued (Text t ∷ Interpolation e ∷ fs) ts h = let r = line_back true (Interpolation e ∷ fs) ts h.2 in (r.0, g.text refl r.1)
-  line_back glued (Interpolation e ∷ fs) ts h = let r = line_back true fs ts h.1 in (h.0.features ++ r.0, g.interpolation refl (h.0.derives.derives false _ refl) refl r.1)
+  line_back glued (Interpolation e ∷ fs) ts h = let r = line_back true fs ts h.1 in (h.0.features ++ r.0, g.interpolation refl (h.0.derives false _ refl) refl r.1)
 
   -- a line that begins with a fragment begins with a token
   begun : {f : Fragment} {fs : List Fragment} {ls : List ShapeLine} {ns ms : Shown} {tokens between rest : Tokens} → LineOf limit (f ∷ fs) ns tokens between → LinesOf limit ls ms between rest → LinesOf limit (Line tt (f ∷ fs) ∷ ls) (ns ++ ms) tokens rest

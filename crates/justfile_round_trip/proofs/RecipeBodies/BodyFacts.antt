@@ -3,7 +3,7 @@
 use Rattle.std.proofs.Common.{◌≡◌, ℕ, zero, suc, ◌+◌, ◌-◌, ◌<◌, ◌≤◌, Bool, true, false, cond, eqb, List, [], ◌∷◌, ◌++◌, inl, inr, length, get_or, take, drop, Option, Some, None, Ok, Err, refl, sym, ap, ◌∙◌, subst, ⊎_elim, arith, take-append-drop}
 use Rattle.std.specs.Prelude.{◌&&◌, ◌||◌, is_some, reverse}
 use Rattle.std.specs.Str.{bytes_eq}
-use Rattle.std.proofs.lemmas.Bool.{and_parts, not-true}
+use Rattle.std.proofs.lemmas.Bool.{and_parts, not-true, false_from_ne_true}
 use Rattle.std.proofs.lemmas.Bool.Decides.{nat_tests}
 use Rattle.std.proofs.lemmas.List.{reverse-append, reverse-reverse, nil_from_length}
 use Rattle.std.proofs.Math.Bool.{or-false}
@@ -27,7 +27,7 @@ use Rattle.justfile_round_trip.proofs.LiteralTexts.LexedModes.{take_front, drop_
 use Rattle.justfile_round_trip.proofs.LiteralTexts.Inline.{Each, head_is}
 use Rattle.justfile_round_trip.proofs.RecipeBodies.Lines.{at_item, item_next}
 use Rattle.justfile_round_trip.proofs.RecipeBodies.BodyLines.{IsRaw, IsWhite, white_blanks, closes_over, no_feed, swapped}
-use Rattle.justfile_round_trip.proofs.LiteralTexts.RawTexts.{scan, NoFeed, text_no_feed, text_rest, raw_newline, raw_braces}
+use Rattle.justfile_round_trip.proofs.LiteralTexts.RawTexts.{scan, NoFeed, one_more, text_no_feed, text_rest, raw_newline, raw_braces}
 use Rattle.justfile_round_trip.proofs.Values.TokenFacts.{Runs, runs_one, runs_from, whitespace_kind}
 use Rattle.justfile_round_trip.proofs.Good.{pale}
 use Rattle.justfile_round_trip.proofs.RecipeBodies.BodyTokens.{InBody, Clear, At, First, Start, Amid, front, past, Ready, Seen, Empty, NotFirst, Closing, AtEnd, AtBlankLine, AtLevel, TokenFact, token_fact, no_interpolation, in_body_there, stops_here, not_blank_past, past_line_end}
@@ -37,20 +37,12 @@ use Rattle.justfile_round_trip.proofs.RecipeBodies.BodyTokens.{InBody, Clear, At
 blanks_taken : (n : ℕ) (rest : List ℕ) → n ≤ blank_len rest → Each blank (take n rest)
 blanks_taken zero rest l = tt
 blanks_taken (suc n) [] l = tt
-blanks_taken (suc n) (x ∷ xs) l = go (blank (class_of x)) refl l (blanks_taken n xs)
-  where
-    go : (t : Bool) → blank (class_of x) ≡ t → suc n ≤ cond t (1 + blank_len xs) 0 → (n ≤ blank_len xs → Each blank (take n xs)) → (blank (class_of x) ≡ true) × Each blank (take n xs)
-    go true h l ih = (h, ih (omega (arith, l)))
-    go false h l ih = absurd (omega (arith, l))
+blanks_taken (suc n) (x ∷ xs) l = (grind arith, blanks_taken n xs (grind arith))
 
 past_after : (n : ℕ) (rest : List ℕ) → n ≤ blank_len rest → past (drop n rest) ≡ past rest
 past_after zero rest l = refl
 past_after (suc n) [] l = refl
-past_after (suc n) (x ∷ xs) l = go (blank (class_of x)) l (past_after n xs)
-  where
-    go : (t : Bool) → suc n ≤ cond t (1 + blank_len xs) 0 → (n ≤ blank_len xs → past (drop n xs) ≡ past xs) → past (drop n xs) ≡ drop (cond t (1 + blank_len xs) 0) (x ∷ xs)
-    go true l ih = ih (omega (arith, l)) ∙ ap (λ k. drop k (x ∷ xs)) (sym (one-add (blank_len xs)))
-    go false l ih = absurd (omega (arith, l))
+past_after (suc n) (x ∷ xs) l = past_after n xs (grind arith) ∙ ap (λ k. drop k (x ∷ xs)) (sym (one_more x xs (grind arith)))
 
 taken_some : (n : ℕ) (rest : List ℕ) → 0 < n → n ≤ blank_len rest → is_empty (take n rest) ≡ false
 taken_some zero rest p l = absurd (omega (arith, p))
@@ -190,11 +182,8 @@ past_end (x ∷ xs) h = ap begins_blank_line (past_line_end x xs (sym (or-false 
 on_line : (w : At) (t following : List ℕ) → begins_blank_line following ≡ true → Seen w (t ++ following) → OnLine w t
 on_line First t following h s = tt
 on_line Amid t following h s = tt
-on_line Start t following h s = by (is_empty (past t)) refl
-  where
-    by : (b : Bool) → is_empty (past t) ≡ b → b ≡ false
-    by true e = let bad : true ≡ false = sym (past_end following h) ∙ sym (ap begins_blank_line (all_blank t following e)) ∙ s in cc
-    by false e = refl
+on_line Start t following h s =
+    false_from_ne_true (is_empty (past t)) (λ e. let bad : true ≡ false = sym (past_end following h) ∙ sym (ap begins_blank_line (all_blank t following e)) ∙ s in cc)
 
 flush : (w : At) (t following : List ℕ) → 0 < length t → Seen w (t ++ following) → Flush w t
 flush Start t following n s = tt
@@ -222,14 +211,8 @@ module _ (w : At) (t : List ℕ) (x : ℕ) (xs : List ℕ) (e : scan 0 (t ++ (x 
       by : (s r : Bool) → eqb x 10 ≡ s → eqb x 13 ≡ r → ((eqb x 10 || (eqb x 13 && second)) || brace) ≡ true → FollowsText w t (cond s (Ok (kinds.Eol, 1)) (cond r (Ok (kinds.Eol, 2)) (Ok (kinds.InterpolationStart, 2))))
       by true r f g h = record { known = last_known w t (x ∷ xs) e some seen (ap (λ b. (b || (eqb x 13 && second)) || false) f) }
       by false true f g h =
-          let at : x ≡ 13 = grind (arith, nat_tests) in
-          let feed : second ≡ true = pick second brace (ap (λ y. eqb y 123 && eqb (get_or xs 0 0) 123) at) (sym (λ i. (f i || (g i && second)) || brace) ∙ h) in
+          let feed : second ≡ true = grind (arith, nat_tests) in
           record { known = last_known w t (x ∷ xs) e some seen (λ i. (f i || (g i && feed i)) || false) }
-        where
-          pick : (a b : Bool) → b ≡ false → ((false || (true && a)) || b) ≡ true → a ≡ true
-          pick true b f h = refl
-          pick false true f h = cc
-          pick false false f h = cc
       by false false f g h = record { known = (raw_braces t (x ∷ xs) (not_empty t some) e (sym (λ i. (f i || (g i && second)) || brace) ∙ h), flush w t (x ∷ xs) some seen) }
 
 after_text : (w : At) (m : Mode) (t following : List ℕ) (s : Tok) → Clear m → InBody m → scan 0 (t ++ following) ≡ length t → 0 < length t → Seen w (t ++ following) → FollowsText w t (next (mode_after kinds.Text s m) following)
@@ -282,19 +265,11 @@ one_level (l ∷ k ∷ ls) h = absurd (omega (arith, h))
 closes_neither : (rest : List ℕ) → closes_levels true rest ≡ false → closes_levels false rest ≡ false
 unfolding closes_levels
 closes_neither [] h = refl
-closes_neither (x ∷ xs) h = by (white (class_of x)) h
-  where
-    by : (w : Bool) → cond w (closes_levels (line_feed (class_of x)) xs) true ≡ false → cond w (closes_levels (line_feed (class_of x)) xs) false ≡ false
-    by true h = h
-    by false h = refl
+closes_neither (x ∷ xs) h = grind arith
 
 white_there : (x : ℕ) (xs : List ℕ) → closes_levels true (x ∷ xs) ≡ false → white (class_of x) ≡ true
 unfolding closes_levels
-white_there x xs h = by (white (class_of x)) h
-  where
-    by : (w : Bool) → cond w (closes_levels (line_feed (class_of x)) xs) true ≡ false → w ≡ true
-    by true h = refl
-    by false h = cc
+white_there x xs h = grind arith
 
 -- the blanks of an open level that is not the current one, where no other is open: none
 no_blanks : (ls : List (List ℕ)) (found : List ℕ) → length ls ≡ 1 → bytes_eq found (innermost_of ls) ≡ false → is_level ls found ≡ true → found ≡ []
@@ -304,11 +279,7 @@ no_blanks (l ∷ []) [] n d h = refl
 no_blanks (l ∷ []) (y ∷ ys) n d h = let bad : true ≡ false = sym h ∙ ap (λ b. b || false) (swapped (y ∷ ys) l d) in cc
 
 front_nothing : (x : ℕ) (xs : List ℕ) → front (x ∷ xs) ≡ [] → blank (class_of x) ≡ false
-front_nothing x xs h = by (blank (class_of x)) h
-  where
-    by : (b : Bool) → take (cond b (1 + blank_len xs) 0) (x ∷ xs) ≡ [] → b ≡ false
-    by true h = let bad : x ∷ take (blank_len xs) xs ≡ [] = sym (ap (λ n. take n (x ∷ xs)) (one-add (blank_len xs))) ∙ h in cc
-    by false h = refl
+front_nothing x xs h = false_from_ne_true (blank (class_of x)) (λ b. let bad : x ∷ take (blank_len xs) xs ≡ [] = sym (ap (λ n. take n (x ∷ xs)) (one_more x xs b)) ∙ h in cc)
 
 module _ (m : Mode) (s : Tok) (k : TokenKind) (n : ℕ) (clear : Clear m) (b : InBody m) (one : length m.levels ≡ 1) where
   outside_is : m.line_start ≡ true → mode_after kinds.Dedent s m ≡ at_item false

@@ -1,5 +1,5 @@
 -- A body that is parsed from the tokens of a text is good, if no line of it ends in a carriage return.
-use Rattle.std.proofs.Common.{◌≡◌, ℕ, suc, Bool, true, false, List, [], ◌∷◌, ◌⊎◌, inl, inr, refl, sym, ap, ◌∙◌, subst, ⊎_elim}
+use Rattle.std.proofs.Common.{◌≡◌, ℕ, suc, Bool, true, false, List, [], ◌∷◌, ◌⊎◌, inl, inr, refl, sym, ap, ◌∙◌, subst, ⊎_elim, arith}
 use Rattle.std.specs.Prelude.{◌&&◌, ◌||◌}
 use Rattle.std.specs.Str.{IsUtf8}
 use Rattle.std.proofs.lemmas.Bool.{and_parts, not-true, or_right}
@@ -9,13 +9,14 @@ use Rattle.justfile_vocabulary.specs.declared.token_kind.TokenKind.TheVariants a
 use Rattle.justfile_model.specs.Lexing.SignificantTokens.{SignificantToken}
 use Rattle.justfile_model.specs.Trees.Tree.{Text, Interpolation, Line, lexeme, nothing, line_before, trimmed}
 use Rattle.justfile_model.specs.Grammars.Grammar as g
-use Rattle.justfile_model.specs.Grammars.Expressions.{BelowLimit, Expression}
+use Rattle.justfile_model.specs.Grammars.Expressions.{BelowLimit}
 use Rattle.justfile_model.specs.Grammars.Files.{to_lexemes}
 use Rattle.justfile_model.specs.Grammars.Grammar.{LineRest, BodyLines}
 use Rattle.justfile_model.specs.Printed.Printing.{ends_in_return, printable_fragments, printable_body}
-use Rattle.justfile_round_trip.proofs.Canon.{Shown, Value, Fragment, ShapeLine}
+use Rattle.justfile_round_trip.proofs.Canon.{Shown, Fragment, ShapeLine}
 use Rattle.justfile_round_trip.proofs.Good.{GoodExpression, GoodFragments, IsShown, IsFirst, GoodLines, GoodBody, pale, pale_line, all_pale, pale_after}
-use Rattle.justfile_round_trip.proofs.Walks.{quiet, walk}
+use Rattle.justfile_round_trip.proofs.Values.TokenFacts.{Around, Sound, around, outside}
+use Rattle.justfile_round_trip.proofs.Values.WrittenValues.{good_expression, past, quiet, value_at}
 use Rattle.justfile_round_trip.proofs.RecipeBodies.BodyTokens.{At, First, Start, Amid, NotFirst}
 use Rattle.justfile_round_trip.proofs.RecipeBodies.BodyFacts.{TextKnown, LastKnown, Situation, situation_after, no_body, NextIs, BodyToken, BodySound}
 
@@ -84,18 +85,11 @@ outside_after _ l s h o = record { body = o.body; interpolation = o.interpolatio
 pub outside_first : IsOutside no_body
 outside_first = record { body = refl; interpolation = refl; levels = refl }
 
--- An expression keeps the properties of the situation, as each of its tokens does.
+-- the tokens of a place with this property, and what is known of the bodies after it
 pub record Walked (P : Situation → Type 0) (ts : Tokens) : Type 0 where
   pub situation : Situation
   pub is : P situation
   pub sound : BodySound situation ts
-
-module _ (P : Situation → Type 0) (keep : (k : TokenKind) (l : List ℕ) (s : Situation) → quiet k ≡ true → P s → P (situation_after k l s)) where
-  pub quiet_walk : (k : TokenKind) (t : SignificantToken) (rest : Tokens) → t.tok.kind ≡ k → quiet k ≡ true → Walked P (t ∷ rest) → Walked P rest
-  quiet_walk k t rest e h w = record { situation = situation_after t.tok.kind t.tok.lexeme w.situation; is = keep t.tok.kind t.tok.lexeme w.situation (ap quiet e ∙ h) w.is; sound = w.sound.1 }
-
-  pub walk_past : (limit : ℕ) {condition : Bool} {depth : ℕ} {e : Value} {ns : Shown} {tokens rest : Tokens} → Expression lexeme nothing (BelowLimit limit) condition depth e ns tokens rest → Walked P tokens → Walked P rest
-  walk_past limit = walk lexeme nothing (BelowLimit limit) (Walked P) quiet_walk
 
 pub quiet_stays : (k : TokenKind) → quiet k ≡ true → shifts k ≡ false
 quiet_stays kinds.Indent h = cc
@@ -126,11 +120,7 @@ after_held (Line n [] ∷ ls) held h = by (trimmed ls) h (all_held ls) (after_he
   where
     by : (ks : List ShapeLine) → pale_after (line_before (Line n []) ks) ≡ true → (all_pale ks ≡ true → held_later true ls ≡ true) → (pale_after ks ≡ true → held_later true ls ≡ true) → held_later true ls ≡ true
     by [] h all some = cc
-    by (k ∷ ks) h all some = go (all_pale (k ∷ ks)) (pale_after (k ∷ ks)) h all some
-      where
-        go : (a b : Bool) → (a || b) ≡ true → (a ≡ true → held_later true ls ≡ true) → (b ≡ true → held_later true ls ≡ true) → held_later true ls ≡ true
-        go true b h all some = all refl
-        go false b h all some = some h
+    by (k ∷ ks) h all some = grind (arith, all, some)
 after_held (Line n (f ∷ fs) ∷ ls) held h = after_held ls (held && pale_line (f ∷ fs)) h
 
 sound_after : (s : Situation) (k : TokenKind) (t : SignificantToken) (rest : Tokens) → t.tok.kind ≡ k → BodySound s (t ∷ rest) → BodySound (situation_after k t.tok.lexeme s) rest
@@ -153,21 +143,9 @@ module _ (limit : ℕ) where
   abbrev pub LinesOf : List ShapeLine → Shown → Tokens → Tokens → Type 0
   LinesOf = BodyLines to_lexemes (BelowLimit limit)
 
-  -- the properties of the single parts of a line
-  abbrev pub PartsGood : List Fragment → Type 0
-  PartsGood [] = Unit {0}
-  PartsGood (Text t ∷ fs) = IsUtf8 t × PartsGood fs
-  PartsGood (Interpolation e ∷ fs) = GoodExpression limit e × PartsGood fs
-
-  abbrev pub AllPartsGood : List ShapeLine → Type 0
-  AllPartsGood [] = Unit {0}
-  AllPartsGood (Line number fs ∷ ls) = PartsGood fs × AllPartsGood ls
-
-  -- in an interpolation
-  walk_inside : {condition : Bool} {depth : ℕ} {e : Value} {ns : Shown} {tokens rest : Tokens} (colon : Bool) → Expression lexeme nothing (BelowLimit limit) condition depth e ns tokens rest → BodySound (interpolating colon) tokens → BodySound (interpolating colon) rest
-  walk_inside {rest} colon x s =
-      let w = walk_past (λ o. o ≡ interpolating colon) (λ k l o h e. ap (situation_after k l) e ∙ quiet_keeps k l colon h) limit x (record { situation = interpolating colon; is = refl; sound = s }) in
-      subst (λ o. BodySound o rest) w.is w.sound
+  -- a token in an interpolation
+  step_inside : (colon : Bool) (k : TokenKind) (t : SignificantToken) (rest : Tokens) → t.tok.kind ≡ k → quiet k ≡ true → BodySound (interpolating colon) (t ∷ rest) → BodySound (interpolating colon) rest
+  step_inside colon k t rest e q s = subst (λ o. BodySound o rest) (quiet_keeps k t.tok.lexeme colon q) (sound_after (interpolating colon) k t rest e s)
 
   trimmed_good : (ls : List ShapeLine) → GoodLines limit ls → GoodLines limit (trimmed ls)
   trimmed_good [] g = tt
@@ -183,6 +161,7 @@ module _ (limit : ℕ) where
     begins : LineBegins w fs
     place : At
     stands : (place ≡ Start) ⊎ (NotFirst place × NextIs (λ k. k ≡ kinds.Dedent) rest)
+    facts : Sound outside false rest
     sound : BodySound (inner place (held && pale_line fs) colon) rest
 
   -- a text, and the fragments after it on its line
@@ -214,88 +193,91 @@ module _ (limit : ℕ) where
       by : {ns : Shown} {tokens rest : Tokens} → LineOf (Interpolation e ∷ fs) ns tokens rest → NextIs (TextKnown w l) tokens → GoodFragments limit (Text l ∷ Interpolation e ∷ fs) × LineBegins w (Text l ∷ Interpolation e ∷ fs)
       by (g.interpolation e' reads e'' r) known = let k = subst (TextKnown w l) e' known in ((k.0, u, good), begins w k)
 
-  line_good : {ns : Shown} (w : At) (held colon : Bool) {fs : List Fragment} {tokens rest : Tokens} → InLine w fs → LineOf fs ns tokens rest → BodySound (inner w held colon) tokens → PartsGood fs → printable_fragments fs ≡ true → LineGood w held colon fs rest
-  line_good Amid held colon i (g.line_ends {token = t} {rest} e) s v p =
-      record { good = tt; begins = tt; place = Start; stands = inl refl; sound = subst (λ h. BodySound (inner Start h colon) rest) (sym (and-true held)) (sound_after (inner Amid held colon) kinds.Eol t rest e s) }
-  line_good Amid held colon i (g.body_ends {token = t} {rest} e) s v p =
-      record { good = tt; begins = tt; place = Amid; stands = inr (tt, e); sound = subst (λ h. BodySound (inner Amid h colon) (t ∷ rest)) (sym (and-true held)) s }
-  line_good _ held colon i (g.line_ends e) s v p = absurd i
-  line_good _ held colon i (g.body_ends e) s v p = absurd i
-  line_good w held colon {fs} {tokens} {rest} i (g.text {token = t} {tokens = mid} e r) s v p = following r v p (line_good Amid (held && pale t.tok.lexeme) colon tt r (sound_after (inner w held colon) kinds.Text t mid e s))
+  line_good : {ns : Shown} (w : At) (held colon : Bool) {fs : List Fragment} {tokens rest : Tokens} → InLine w fs → LineOf fs ns tokens rest → Sound outside false tokens → BodySound (inner w held colon) tokens → printable_fragments fs ≡ true → LineGood w held colon fs rest
+  line_good Amid held colon i (g.line_ends {token = t} {rest} e) h s p =
+      record { good = tt; begins = tt; place = Start; stands = inl refl; facts = past outside t rest kinds.Eol e h.2; sound = subst (λ h. BodySound (inner Start h colon) rest) (sym (and-true held)) (sound_after (inner Amid held colon) kinds.Eol t rest e s) }
+  line_good Amid held colon i (g.body_ends {token = t} {rest} e) h s p =
+      record { good = tt; begins = tt; place = Amid; stands = inr (tt, e); facts = h; sound = subst (λ h. BodySound (inner Amid h colon) (t ∷ rest)) (sym (and-true held)) s }
+  line_good _ held colon i (g.line_ends e) h s p = absurd i
+  line_good _ held colon i (g.body_ends e) h s p = absurd i
+  line_good w held colon {fs} {tokens} {rest} i (g.text {token = t} {tokens = mid} e r) h s p =
+      following r p (line_good Amid (held && pale t.tok.lexeme) colon tt r (past outside t mid kinds.Text e h.2) (sound_after (inner w held colon) kinds.Text t mid e s))
     where
-      following : {ns : Shown} {gs : List Fragment} → LineOf gs ns mid rest → PartsGood (Text t.tok.lexeme ∷ gs) → printable_fragments (Text t.tok.lexeme ∷ gs) ≡ true → (PartsGood gs → printable_fragments gs ≡ true → LineGood Amid (held && pale t.tok.lexeme) colon gs rest) → LineGood w held colon (Text t.tok.lexeme ∷ gs) rest
-      following {gs} r v p more =
-          let m = more v.1 (printable_rest (Text t.tok.lexeme) gs p) in
-          let front = raw_good w t.tok.lexeme gs mid rest r (known_of (inner w held colon) kinds.Text t mid e s) m.good v.0 p in
-          record { good = front.0; begins = front.1; place = m.place; stands = m.stands; sound = subst (λ h. BodySound (inner m.place h colon) rest) (and_assoc held (pale t.tok.lexeme) (pale_line gs)) m.sound }
-  line_good w held colon {fs} {tokens} {rest} i (g.interpolation {e} {start} {end = stop} {tokens = inside} {others = mid} e' reads e'' r) s v p =
-      following r v p (line_good Amid false colon tt r closed)
+      following : {ns : Shown} {gs : List Fragment} → LineOf gs ns mid rest → printable_fragments (Text t.tok.lexeme ∷ gs) ≡ true → (printable_fragments gs ≡ true → LineGood Amid (held && pale t.tok.lexeme) colon gs rest) → LineGood w held colon (Text t.tok.lexeme ∷ gs) rest
+      following {gs} r p more =
+          let m = more (printable_rest (Text t.tok.lexeme) gs p) in
+          let front = raw_good w t.tok.lexeme gs mid rest r (known_of (inner w held colon) kinds.Text t mid e s) m.good h.0.utf8 p in
+          record { good = front.0; begins = front.1; place = m.place; stands = m.stands; facts = m.facts; sound = subst (λ h. BodySound (inner m.place h colon) rest) (and_assoc held (pale t.tok.lexeme) (pale_line gs)) m.sound }
+  line_good w held colon {fs} {tokens} {rest} i (g.interpolation {e} {start} {end = stop} {tokens = inside} {others = mid} e' reads e'' r) h s p =
+      let opened : Around = around kinds.InterpolationStart [] outside in
+      let value = value_at (BelowLimit limit) (BodySound (interpolating colon)) (step_inside colon) reads opened (record {
+        facts = past outside start inside kinds.InterpolationStart e' h.2;
+        bodies = sound_after (inner w held colon) kinds.InterpolationStart start inside e' s;
+      }) in
+      following r p (good_expression limit reads value.good) (line_good Amid false colon tt r (past opened stop mid kinds.InterpolationEnd e'' value.following.facts.2) (sound_after (interpolating colon) kinds.InterpolationEnd stop mid e'' value.following.bodies))
     where
-      opened : BodySound (interpolating colon) (stop ∷ mid)
-      opened = walk_inside colon reads (sound_after (inner w held colon) kinds.InterpolationStart start inside e' s)
-
-      closed : BodySound (inner Amid false colon) mid
-      closed = sound_after (interpolating colon) kinds.InterpolationEnd stop mid e'' opened
-
       begins : (w : At) (gs : List Fragment) → LineBegins w (Interpolation e ∷ gs)
       begins First gs = tt
       begins _ gs = tt
 
-      following : {ns : Shown} {gs : List Fragment} → LineOf gs ns mid rest → PartsGood (Interpolation e ∷ gs) → printable_fragments (Interpolation e ∷ gs) ≡ true → (PartsGood gs → printable_fragments gs ≡ true → LineGood Amid false colon gs rest) → LineGood w held colon (Interpolation e ∷ gs) rest
-      following {gs} r v p more =
-          let m = more v.1 (printable_rest (Interpolation e) gs p) in
-          record { good = (v.0, m.good); begins = begins w gs; place = m.place; stands = m.stands; sound = subst (λ h. BodySound (inner m.place h colon) rest) (sym (and-false held)) m.sound }
+      following : {ns : Shown} {gs : List Fragment} → LineOf gs ns mid rest → printable_fragments (Interpolation e ∷ gs) ≡ true → GoodExpression limit e → (printable_fragments gs ≡ true → LineGood Amid false colon gs rest) → LineGood w held colon (Interpolation e ∷ gs) rest
+      following {gs} r p v more =
+          let m = more (printable_rest (Interpolation e) gs p) in
+          record { good = (v, m.good); begins = begins w gs; place = m.place; stands = m.stands; facts = m.facts; sound = subst (λ h. BodySound (inner m.place h colon) rest) (sym (and-false held)) m.sound }
 
   -- ---- lines up to the dedent
 
   record LinesGood (held : Bool) (ls : List ShapeLine) (rest : Tokens) : Type 0 where
     good : GoodLines limit ls
     last : held_later held ls ≡ true → NextIs (λ k. k ≡ kinds.Eof) rest
+    facts : Sound outside false rest
     sound : BodySound no_body rest
 
-  closed_good : (w : At) (held colon : Bool) (t : SignificantToken) (rest : Tokens) → NotFirst w → t.tok.kind ≡ kinds.Dedent → BodySound (inner w held colon) (t ∷ rest) → LinesGood held [] rest
-  closed_good w held colon t rest later e s = record {
+  closed_good : (w : At) (held colon : Bool) (t : SignificantToken) (rest : Tokens) → NotFirst w → t.tok.kind ≡ kinds.Dedent → Sound outside false (t ∷ rest) → BodySound (inner w held colon) (t ∷ rest) → LinesGood held [] rest
+  closed_good w held colon t rest later e h s = record {
     good = tt;
     last = λ h. (known_of (inner w held colon) kinds.Dedent t rest e s refl).1 h refl;
+    facts = past outside t rest kinds.Dedent e h.2;
     sound = sound_after (inner w held colon) kinds.Dedent t rest e s;
   }
 
   -- a dedent doesn't begin a line
-  dedent_good : {ns : Shown} (w : At) (held colon : Bool) {ls : List ShapeLine} {tokens rest : Tokens} → NotFirst w → NextIs (λ k. k ≡ kinds.Dedent) tokens → LinesOf ls ns tokens rest → BodySound (inner w held colon) tokens → LinesGood held ls rest
-  dedent_good w held colon later d (g.no_line {token = t} {rest} e) s = closed_good w held colon t rest later e s
-  dedent_good w held colon later d (g.empty_line e r) s = let bad : kinds.Eol ≡ kinds.Dedent = sym e ∙ d in cc
-  dedent_good w held colon later d (g.some_line (g.text e l) r) s = let bad : kinds.Text ≡ kinds.Dedent = sym e ∙ d in cc
-  dedent_good w held colon later d (g.some_line (g.interpolation e reads e' l) r) s = let bad : kinds.InterpolationStart ≡ kinds.Dedent = sym e ∙ d in cc
+  dedent_good : {ns : Shown} (w : At) (held colon : Bool) {ls : List ShapeLine} {tokens rest : Tokens} → NotFirst w → NextIs (λ k. k ≡ kinds.Dedent) tokens → LinesOf ls ns tokens rest → Sound outside false tokens → BodySound (inner w held colon) tokens → LinesGood held ls rest
+  dedent_good w held colon later d (g.no_line {token = t} {rest} e) h s = closed_good w held colon t rest later e h s
+  dedent_good w held colon later d (g.empty_line e r) h s = let bad : kinds.Eol ≡ kinds.Dedent = sym e ∙ d in cc
+  dedent_good w held colon later d (g.some_line (g.text e l) r) h s = let bad : kinds.Text ≡ kinds.Dedent = sym e ∙ d in cc
+  dedent_good w held colon later d (g.some_line (g.interpolation e reads e' l) r) h s = let bad : kinds.InterpolationStart ≡ kinds.Dedent = sym e ∙ d in cc
 
-  lines_good : {ns : Shown} (held colon : Bool) {ls : List ShapeLine} {tokens rest : Tokens} → LinesOf ls ns tokens rest → BodySound (inner Start held colon) tokens → AllPartsGood ls → printable_body ls ≡ true → LinesGood held ls rest
-  lines_good held colon (g.no_line {token = t} {rest} e) s v p = closed_good Start held colon t rest tt e s
-  lines_good held colon (g.empty_line {lines = ls} {token = t} {tokens} e r) s v p =
-      let m = lines_good true colon r (sound_after (inner Start held colon) kinds.Eol t tokens e s) v.1 p in
-      record { good = (tt, tt, m.good); last = m.last; sound = m.sound }
-  lines_good held colon {tokens} {rest} (g.some_line {f} {fragments = fs} {lines = ls} {between = mid} l r) s v p =
-      following (line_good Start held colon tt l s v.0 parts.0) (λ h. lines_good h colon r)
+  lines_good : {ns : Shown} (held colon : Bool) {ls : List ShapeLine} {tokens rest : Tokens} → LinesOf ls ns tokens rest → Sound outside false tokens → BodySound (inner Start held colon) tokens → printable_body ls ≡ true → LinesGood held ls rest
+  lines_good held colon (g.no_line {token = t} {rest} e) h s p = closed_good Start held colon t rest tt e h s
+  lines_good held colon (g.empty_line {lines = ls} {token = t} {tokens} e r) h s p =
+      let m = lines_good true colon r (past outside t tokens kinds.Eol e h.2) (sound_after (inner Start held colon) kinds.Eol t tokens e s) p in
+      record { good = (tt, tt, m.good); last = m.last; facts = m.facts; sound = m.sound }
+  lines_good held colon {tokens} {rest} (g.some_line {f} {fragments = fs} {lines = ls} {between = mid} l r) h s p =
+      following (line_good Start held colon tt l h s parts.0) (λ b. lines_good b colon r)
     where
       parts : (printable_fragments (f ∷ fs) ≡ true) × (printable_body ls ≡ true)
       parts = and_parts (printable_fragments (f ∷ fs)) (printable_body ls) p
 
-      following : LineGood Start held colon (f ∷ fs) mid → ((h : Bool) → BodySound (inner Start h colon) mid → AllPartsGood ls → printable_body ls ≡ true → LinesGood h ls rest) → LinesGood held (Line tt (f ∷ fs) ∷ ls) rest
+      following : LineGood Start held colon (f ∷ fs) mid → ((b : Bool) → Sound outside false mid → BodySound (inner Start b colon) mid → printable_body ls ≡ true → LinesGood b ls rest) → LinesGood held (Line tt (f ∷ fs) ∷ ls) rest
       following m ih =
-          let h : Bool = held && pale_line (f ∷ fs) in
-          let k : LinesGood h ls rest = ⊎_elim (λ at. ih h (subst (λ w. BodySound (inner w h colon) mid) at m.sound) v.1 parts.1) (λ d. dedent_good m.place h colon d.0 d.1 r m.sound) m.stands in
-          record { good = (m.good, m.begins, k.good); last = k.last; sound = k.sound }
+          let b : Bool = held && pale_line (f ∷ fs) in
+          let k : LinesGood b ls rest = ⊎_elim (λ at. ih b m.facts (subst (λ w. BodySound (inner w b colon) mid) at m.sound) parts.1) (λ d. dedent_good m.place b colon d.0 d.1 r m.facts m.sound) m.stands in
+          record { good = (m.good, m.begins, k.good); last = k.last; facts = k.facts; sound = k.sound }
 
   -- A body that was read has good lines, and where its last lines hold levels open it is the last item of the file.
   pub record BodyRead (ls : List ShapeLine) (rest : Tokens) : Type 0 where
     pub good : GoodBody limit (trimmed ls)
     pub last : pale_after (trimmed ls) ≡ true → NextIs (λ k. k ≡ kinds.Eof) rest
+    pub facts : Sound outside false rest
     pub sound : BodySound no_body rest
 
   -- from the token after the Indent on
-  pub body_read : {ns : Shown} (colon : Bool) {ls : List ShapeLine} {tokens rest : Tokens} → LinesOf ls ns tokens rest → BodySound (inner First false colon) tokens → AllPartsGood ls → printable_body ls ≡ true → BodyRead ls rest
-  body_read colon (g.no_line {token = t} {rest} e) s v p = absurd ((known_of (inner First false colon) kinds.Dedent t rest e s refl).0)
-  body_read colon (g.empty_line {lines = ls} {token = t} {tokens} e r) s v p = absurd (known_of (inner First false colon) kinds.Eol t tokens e s refl refl)
-  body_read colon {tokens} {rest} (g.some_line {f} {fragments = fs} {lines = ls} {between = mid} l r) s v p =
+  pub body_read : {ns : Shown} (colon : Bool) {ls : List ShapeLine} {tokens rest : Tokens} → LinesOf ls ns tokens rest → Sound outside false tokens → BodySound (inner First false colon) tokens → printable_body ls ≡ true → BodyRead ls rest
+  body_read colon (g.no_line {token = t} {rest} e) h s p = absurd ((known_of (inner First false colon) kinds.Dedent t rest e s refl).0)
+  body_read colon (g.empty_line {lines = ls} {token = t} {tokens} e r) h s p = absurd (known_of (inner First false colon) kinds.Eol t tokens e s refl refl)
+  body_read colon {tokens} {rest} (g.some_line {f} {fragments = fs} {lines = ls} {between = mid} l r) h s p =
       let parts = and_parts (printable_fragments (f ∷ fs)) (printable_body ls) p in
-      let m = line_good First false colon tt l s v.0 parts.0 in
-      let k : LinesGood false ls rest = ⊎_elim (λ at. lines_good false colon r (subst (λ w. BodySound (inner w false colon) mid) at m.sound) v.1 parts.1) (λ d. dedent_good m.place false colon d.0 d.1 r m.sound) m.stands in
-      record { good = (m.begins, m.good, trimmed_good ls k.good); last = λ h. k.last (after_held ls false h); sound = k.sound }
+      let m = line_good First false colon tt l h s parts.0 in
+      let k : LinesGood false ls rest = ⊎_elim (λ at. lines_good false colon r m.facts (subst (λ w. BodySound (inner w false colon) mid) at m.sound) parts.1) (λ d. dedent_good m.place false colon d.0 d.1 r m.facts m.sound) m.stands in
+      record { good = (m.begins, m.good, trimmed_good ls k.good); last = λ h. k.last (after_held ls false h); facts = k.facts; sound = k.sound }

@@ -1,5 +1,5 @@
 -- Properties of the next token in and around a body, in any text.
-use Rattle.std.proofs.Common.{◌≡◌, ℕ, zero, suc, ◌+◌, ◌<◌, ◌≤◌, Bool, true, false, cond, eqb, ltb, List, [], ◌∷◌, ◌⊎◌, inl, inr, length, get_or, take, drop, Option, Some, None, Ok, Err, refl, sym, ap, ◌∙◌, subst, ⊎_elim, arith, length-take}
+use Rattle.std.proofs.Common.{◌≡◌, ℕ, zero, suc, ◌<◌, ◌≤◌, Bool, true, false, cond, eqb, List, [], ◌∷◌, ◌⊎◌, inl, inr, length, get_or, take, drop, Option, Some, None, Ok, Err, refl, sym, ap, ◌∙◌, subst, ⊎_elim, arith, length-take}
 use Rattle.std.specs.Prelude.{◌&&◌, ◌||◌, not, is_some, nat_eq}
 use Rattle.std.specs.List.{starts_with}
 use Rattle.std.specs.Str.{bytes_eq}
@@ -14,7 +14,7 @@ use Rattle.justfile_vocabulary.specs.declared.token_kind.TokenKind.TheVariants a
 use Rattle.justfile_vocabulary.specs.ByteClass.{class_of}
 use Rattle.justfile_model.specs.declared.open_delimiter.OpenDelimiter.{OpenDelimiter}
 use Rattle.justfile_model.specs.declared.raw_text.RawText.TheVariants as raw_texts
-use Rattle.justfile_model.specs.Lexing.Bytes.{blank, is_blank, blank_len, is_line_end, is_interpolation_start, is_interpolation_end, is_mixed, closes_levels}
+use Rattle.justfile_model.specs.Lexing.Bytes.{blank, is_blank, blank_len, is_line_end, is_interpolation_end, is_mixed, closes_levels}
 use Rattle.justfile_model.specs.Lexing.LiteralText.{ends, pieces_len}
 use Rattle.justfile_model.specs.Lexing.Modes.{Mode, is_empty, innermost, nested}
 use Rattle.justfile_model.specs.Lexing.Next.{NextToken, token_outside_text, text_or, body_token, at_end_by, Region, InText, InInterpolation, OutsideText, region_by, token_in_region, token_within_line, blanks_or, tested_blanks, is_level, layout, begins_blank_line, next_by, next}
@@ -124,12 +124,7 @@ plain_finds w m rest (Err r) outside p = record { fact = tt }
 
 past_end : (x : ℕ) (xs : List ℕ) → is_line_end (x ∷ xs) ≡ true → blank (class_of x) ≡ false
 unfolding class_of
-past_end x xs h = by (eqb x 10) (eqb x 13) refl refl h
-  where
-    by : (s t : Bool) → eqb x 10 ≡ s → eqb x 13 ≡ t → (s || (t && eqb (get_or xs 0 0) 10)) ≡ true → blank (class_of x) ≡ false
-    by true t e f h = let at : x ≡ 10 = grind (arith, nat_tests) in ap (λ b. blank (class_of b)) at
-    by false true e f h = let at : x ≡ 13 = grind (arith, nat_tests) in ap (λ b. blank (class_of b)) at
-    by false false e f h = cc
+past_end x xs h = grind (arith, nat_tests)
 
 pub not_blank_past : (rest : List ℕ) → head_is blank rest ≡ false → past rest ≡ rest
 not_blank_past rest h = ap (λ n. drop n rest) (none_here rest h)
@@ -165,15 +160,7 @@ return_closes x (y ∷ ys) h g b =
 -- where no text is, the scan stops
 pub stops_here : (x : ℕ) (xs : List ℕ) → scan 0 (x ∷ xs) ≡ 0 → ends raw_texts.Body (x ∷ xs) ≡ true
 unfolding pieces_len
-stops_here x xs e = go (cond (is_interpolation_start (x ∷ xs) && is_interpolation_start (drop 2 (x ∷ xs))) 3 0) (ends raw_texts.Body (x ∷ xs)) e
-  where
-    go : (h : ℕ) (s : Bool) → cond (ltb 0 h) (suc (scan h xs)) (cond s 0 (suc (scan 0 xs))) ≡ 0 → s ≡ true
-    go h true e = refl
-    go h false e = absurd (two (ltb 0 h) e)
-      where
-        two : (b : Bool) → cond b (suc (scan h xs)) (suc (scan 0 xs)) ≡ 0 → ⊥
-        two true e = omega (arith, e)
-        two false e = omega (arith, e)
+stops_here x xs e = grind (arith, nat_tests)
 
 body_finds : (w : At) (m : Mode) (x : ℕ) (xs : List ℕ) → InBody m → LineInfo w (x ∷ xs) → Finds w m (x ∷ xs) (body_token (x ∷ xs))
 unfolding body_token
@@ -183,13 +170,8 @@ body_finds w m x xs b i = by (scan 0 (x ∷ xs)) refl
     at_end e true t h g = record { fact = λ _. (feed_closes x xs h, empty_line w x xs (ap (λ c. c || (eqb x 13 && eqb (get_or xs 0 0) 10)) h) i) }
     at_end e false true h g =
         let stop = stops_here x xs e in
-        let second : eqb (get_or xs 0 0) 10 ≡ true = feed (eqb (get_or xs 0 0) 10) (eqb (get_or xs 0 0) 123) (eqb x 123) (λ f. let bad : x ≡ 13 = grind (arith, nat_tests) in grind (arith, nat_tests)) (sym (λ j. (h j || (g j && eqb (get_or xs 0 0) 10)) || (eqb x 123 && eqb (get_or xs 0 0) 123)) ∙ stop) in
+        let second : eqb (get_or xs 0 0) 10 ≡ true = grind (arith, nat_tests) in
         record { fact = λ _. (return_closes x xs g second, empty_line w x xs ((λ j. h j || (g j && second j))) i) }
-      where
-        feed : (n c d : Bool) → (d ≡ true → ⊥) → ((false || (true && n)) || (d && c)) ≡ true → n ≡ true
-        feed true c d outside e = refl
-        feed false c true outside e = absurd (outside refl)
-        feed false c false outside e = cc
     at_end e false false h g = record { fact = b }
 
     by : (n : ℕ) → scan 0 (x ∷ xs) ≡ n → Finds w m (x ∷ xs) (text_or n x)
@@ -219,11 +201,7 @@ inside_finds w m x xs i = by (region_by m.in_body m.interpolation) refl
 
 past_blank : (rest : List ℕ) → head_is blank (past rest) ≡ false
 past_blank [] = refl
-past_blank (x ∷ xs) = go (blank (class_of x)) refl (past_blank xs)
-  where
-    go : (t : Bool) → blank (class_of x) ≡ t → head_is blank (past xs) ≡ false → head_is blank (drop (cond t (1 + blank_len xs) 0) (x ∷ xs)) ≡ false
-    go true h ih = ap (λ n. head_is blank (drop n (x ∷ xs))) (one-add (blank_len xs)) ∙ ih
-    go false h ih = h
+past_blank (x ∷ xs) = grind (arith, past_blank xs, one-add (blank_len xs))
 
 front_length : (rest : List ℕ) → length (front rest) ≡ blank_len rest
 front_length rest = let fits = prefix_len-le-length is_blank rest in omega (arith, length-take (blank_len rest) rest)

@@ -17,9 +17,8 @@ trimmed_twice (l ∷ ls) = before_twice l (trimmed ls) (trimmed_twice ls)
 
 -- an empty line is printable
 before_printable : (l : ShapeLine) (ls : List ShapeLine) → printable_body (line_before l ls) ≡ printable_body (l ∷ ls)
-before_printable (Line n []) [] = refl
 before_printable (Line n []) (k ∷ ls) = refl
-before_printable (Line n (f ∷ fs)) ls = refl
+before_printable _ ls = refl
 
 pub trimmed_printable : (ls : List ShapeLine) → printable_body (trimmed ls) ≡ printable_body ls
 trimmed_printable [] = refl

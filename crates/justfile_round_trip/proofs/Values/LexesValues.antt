@@ -1,6 +1,6 @@
 -- The text of good values lexes to the printer's tokens.
-use Rattle.std.proofs.Common.{◌≡◌, ℕ, Bool, true, false, cond, eqb, List, [], ◌∷◌, ◌++◌, get_or, Option, refl, sym, ap, ◌∙◌, subst, arith, codes}
-use Rattle.std.proofs.lemmas.Bool.Decides.{nat_tests}
+use Rattle.std.proofs.Common.{◌≡◌, ℕ, Bool, true, false, cond, eqb, List, [], ◌∷◌, ◌++◌, get_or, Option, refl, sym, ap, ◌∙◌, subst, codes}
+use Rattle.std.specs.Str.{IsUtf8}
 use Rattle.justfile_vocabulary.specs.declared.byte_class.ByteClass.TheVariants as classes
 use Rattle.justfile_token.specs.declared.delimiter.Delimiter.TheVariants.{Brace, Bracket, FormatString, Paren}
 use Rattle.justfile_token.specs.declared.string_kind.StringDelimiter.{StringDelimiter}
@@ -15,24 +15,20 @@ use Rattle.justfile_model.specs.declared.conditional_operator.ConditionalOperato
 use Rattle.justfile_model.specs.declared.open_delimiter.OpenDelimiter.{OpenDelimiter}
 use Rattle.justfile_model.specs.Lexing.Bytes.{blank, in_word}
 use Rattle.justfile_model.specs.Grammars.Expressions.{operator_kind}
-use Rattle.justfile_model.specs.Lexing.Modes.{Mode, opener}
+use Rattle.justfile_model.specs.Lexing.Modes.{opener}
 use Rattle.justfile_model.specs.Lexing.Next.{is_backtick}
 use Rattle.justfile_model.specs.Printed.Printing.{is_conditional}
 use Rattle.justfile_model.specs.Lexing.Tok.{Tok}
 use Rattle.justfile_model.specs.Trees.Tree as tree
 use Rattle.justfile_model.specs.Trees.Tree.{Or, And, Comparison, Concatenation, ListConcatenation, Join, Root, If, IfElse, Not, StringLiteral, FormatLiteral, FormatString, Backtick, Assert, AssertMessage, Variable, Call, Group, ListOf, Last, Continue}
-use Rattle.justfile_round_trip.proofs.LiteralTexts.LexedModes.{Sign, sign, LexesTo}
-use Rattle.justfile_round_trip.proofs.LiteralTexts.Inline.{head_is, joins, head_word, amid, IsName, IsLiteral, name_step, word_step, space_step, literal_step, whole_step, start_step, continue_step, end_step}
+use Rattle.justfile_round_trip.proofs.LiteralTexts.LexedModes.{Sign, sign, space, Lexes, text_of}
+use Rattle.justfile_round_trip.proofs.LiteralTexts.Inline.{Goes, goes, name_then, head_is, amid, IsName, IsLiteral, word_step, space_step, start_no, literal_step, whole_step, start_step, continue_step, end_step}
 use Rattle.justfile_round_trip.proofs.Fixed as fixed
 use Rattle.justfile_round_trip.proofs.Fixed.{bang_step, close_step, open_step, plus_step, token_step}
-use Rattle.justfile_round_trip.proofs.Canon.{Value, Values, ShapeParts, operator_codes, expr_on, exprs_on, others_on, parts_on, expr_signs, exprs_signs, others_signs, parts_signs}
+use Rattle.justfile_round_trip.proofs.Canon.{Value, Values, ShapeParts, operator_codes, expr_signs, exprs_signs, others_signs, parts_signs}
 use Rattle.justfile_round_trip.proofs.Good.{IsDelimited, IsFormatLiteral, IsFormatStart, IsPartOf, GoodValue, GoodValues, GoodParts}
 
 -- ---- how a value begins
-
-pub name_no_blank : (n more : List ℕ) → IsName n → head_is blank (n ++ more) ≡ false
-name_no_blank [] more h = absurd h
-name_no_blank (x ∷ xs) more h = ap blank h.0
 
 -- with no blank, and with nothing that makes another operator of a `!`
 pub record Begins (t : List ℕ) : Type 0 where
@@ -50,23 +46,9 @@ unfolding class_of
 quote_begins delimiters.Backtick xs = record { no_blank = refl; no_equals = refl; no_tilde = refl }
 quote_begins _ xs = record { no_blank = refl; no_equals = refl; no_tilde = refl }
 
-pub start_no : (x y : ℕ) → class_of x ≡ classes.IdentifierStart → (class_of y ≡ classes.IdentifierStart → ⊥) → eqb x y ≡ false
-start_no x y h not = go (eqb x y) refl
-  where
-    go : (b : Bool) → eqb x y ≡ b → b ≡ false
-    go true e = let at : x ≡ y = grind (arith, nat_tests) in absurd (not (subst (λ n. class_of n ≡ classes.IdentifierStart) at h))
-    go false e = refl
-
-equals_no_name : class_of 61 ≡ classes.IdentifierStart → ⊥
-unfolding class_of
-equals_no_name e = cc
-
-tilde_no_name : class_of 126 ≡ classes.IdentifierStart → ⊥
-unfolding class_of
-tilde_no_name e = cc
-
 name_begins : (x : ℕ) (xs : List ℕ) → class_of x ≡ classes.IdentifierStart → Begins (x ∷ xs)
-name_begins x xs h = record { no_blank = ap blank h; no_equals = start_no x 61 h equals_no_name; no_tilde = start_no x 126 h tilde_no_name }
+unfolding class_of
+name_begins x xs h = record { no_blank = ap blank h; no_equals = start_no x 61 h (λ e. cc); no_tilde = start_no x 126 h (λ e. cc) }
 
 literal_begins : (k : StringKind) (l more : List ℕ) → IsLiteral k l → Begins (l ++ more)
 literal_begins k l more h = subst (λ t. Begins (t ++ more)) (sym h.is) (quote_begins k.delimiter _)
@@ -78,122 +60,114 @@ literal_no_word k l more h = ap (λ t. head_is in_word (t ++ more)) h.is ∙ quo
 start_no_word : (l more : List ℕ) → IsFormatStart l → head_is in_word (l ++ more) ≡ false
 start_no_word l more h = ap (λ t. head_is in_word (t ++ more)) h.part.is ∙ quote_no_word (kind_of l).delimiter
 
-pub value_begins : (e : Value) (more : List ℕ) → GoodValue e → Begins (expr_on e more)
+-- Text that begins like that, and is lexed to these tokens where no `f` came last.
+pub record Starts (os : List OpenDelimiter) (ls : List (List ℕ)) (c : Bool) (i : Option Tok) (ts : List Sign) : Type 0 where
+  pub begins : Begins (text_of ts)
+  pub lexes : Lexes (amid os ls c i false) ts
+
+pub starts : {os : List OpenDelimiter} {ls : List (List ℕ)} {c : Bool} {i : Option Tok} {ts : List Sign} → head_is blank (text_of ts) ≡ false → eqb (get_or (text_of ts) 0 0) 61 ≡ false
+    → eqb (get_or (text_of ts) 0 0) 126 ≡ false → Lexes (amid os ls c i false) ts → Starts os ls c i ts
+starts blank equals tilde k = record { begins = record { no_blank = blank; no_equals = equals; no_tilde = tilde }; lexes = k }
+
+pub spaced : {os : List OpenDelimiter} {ls : List (List ℕ)} {c : Bool} {i : Option Tok} {f : Bool} {ts : List Sign} → Starts os ls c i ts → Lexes (amid os ls c i f) (space ∷ ts)
+spaced s = space_step s.begins.no_blank s.lexes
+
+pub named : {os : List OpenDelimiter} {ls : List (List ℕ)} {c : Bool} {i : Option Tok} (n : List ℕ) {ts : List Sign} → IsName n → Goes os ls c i ts → Starts os ls c i (sign kinds.Identifier n ∷ ts)
+named [] h k = absurd h
+named (x ∷ xs) h k = record { begins = name_begins x _ h.0; lexes = name_then (x ∷ xs) h k }
+
+part_begins : (k : StringKind) (fin : Bool) (l more : List ℕ) → IsPartOf k fin l → Begins (l ++ more)
 unfolding class_of
-value_begins (Or l r) more h = value_begins l _ h.0
-value_begins (And l r) more h = value_begins l _ h.0
-value_begins (Comparison l operator token r) more h = value_begins l _ h.0
-value_begins (Concatenation l operator r) more h = value_begins l _ h.0
-value_begins (ListConcatenation l operator r) more h = value_begins l _ h.0
-value_begins (Join l operator r) more h = value_begins l _ h.0
-value_begins (StringLiteral false l) more h = literal_begins h.kind l more h.literal
-value_begins (Backtick l) more h = literal_begins h.kind l more h.literal
-value_begins (Variable []) more h = absurd h
-value_begins (Variable (x ∷ xs)) more h = name_begins x _ h.0
-value_begins (Call [] es) more h = absurd h.0
-value_begins (Call (x ∷ xs) es) more h = name_begins x _ h.0.0
-value_begins (Root operator r) more h = record { no_blank = refl; no_equals = refl; no_tilde = refl }
-value_begins _ more h = record { no_blank = refl; no_equals = refl; no_tilde = refl }
-
--- a value begins with no blank
-pub value_no_blank : (e : Value) (more : List ℕ) → GoodValue e → head_is blank (expr_on e more) ≡ false
-value_no_blank e more h = (value_begins e more h).no_blank
-
-other_no_blank : (b : Bool) (x y : List ℕ) → head_is blank x ≡ false → head_is blank y ≡ false → head_is blank (cond b x y) ≡ false
-other_no_blank true x y e f = e
-other_no_blank false x y e f = f
-
-part_no_blank : (k : StringKind) (fin : Bool) (l more : List ℕ) → IsPartOf k fin l → head_is blank (l ++ more) ≡ false
-unfolding class_of
-part_no_blank k fin l more h = ap (λ t. head_is blank (t ++ more)) h.is
-
-parts_no_blank : (k : StringKind) (ps : ShapeParts) (more : List ℕ) → GoodParts k ps → head_is blank (parts_on ps more) ≡ false
-parts_no_blank k (Last l) more h = part_no_blank k true l more h
-parts_no_blank k (Continue l e ps) more h = part_no_blank k false l _ h.0
-
-others_join : (es : Values) (more : List ℕ) → head_is joins more ≡ false → head_is joins (others_on es more) ≡ false
-unfolding class_of
-others_join tree.none more h = h
-others_join (tree.more e es) more h = refl
+part_begins k fin l more h = subst (λ t. Begins (t ++ more)) (sym h.is) (record { no_blank = refl; no_equals = refl; no_tilde = refl })
 
 string_no_backtick : (d : StringDelimiter) → token_kind_of d ≡ kinds.StringToken → is_backtick d ≡ false
 string_no_backtick delimiters.Backtick e = cc
-string_no_backtick delimiters.QuoteDouble e = refl
-string_no_backtick delimiters.QuoteSingle e = refl
+string_no_backtick _ e = refl
 
-either : {m : Mode} (b : Bool) {x y : List ℕ} {ts us : List Sign} → LexesTo m x ts → LexesTo m y us → LexesTo m (cond b x y) (cond b ts us)
+either : {os : List OpenDelimiter} {ls : List (List ℕ)} {c : Bool} {i : Option Tok} (b : Bool) {ts us : List Sign} → Starts os ls c i ts → Starts os ls c i us → Starts os ls c i (cond b ts us)
 either true r q = r
 either false r q = q
 
 module _ (ls : List (List ℕ)) (c : Bool) (i : Option Tok) where
-  delimited_step : (os : List OpenDelimiter) (q : TokenKind) (l more : List ℕ) (ts : List Sign) (h : IsDelimited q l) → head_is joins more ≡ false → LexesTo (amid os ls c i false) more ts → LexesTo (amid os ls c i false) (l ++ more) (sign q l ∷ ts)
-  delimited_step os q l more ts h stop k = subst (λ q. LexesTo (amid os ls c i false) (l ++ more) (sign q l ∷ ts)) h.is_token (literal_step h.kind l more h.literal stop k)
+  delimited_step : (os : List OpenDelimiter) (q : TokenKind) (l : List ℕ) (ts : List Sign) → IsDelimited q l × IsUtf8 l → Goes os ls c i ts → Lexes (amid os ls c i false) (sign q l ∷ ts)
+  delimited_step os q l ts h k = subst (λ q. Lexes (amid os ls c i false) (sign q l ∷ ts)) h.0.is_token (literal_step h.0.kind l h.0.literal h.1 k.apart (k.lexes false))
 
-  format_step : (os : List OpenDelimiter) (l more : List ℕ) (ts : List Sign) (h : IsFormatLiteral l) → head_is joins more ≡ false → LexesTo (amid os ls c i false) more ts → LexesTo (amid os ls c i true) (l ++ more) (sign kinds.StringToken l ∷ ts)
-  format_step os l more ts h stop k =
-      subst (λ q. LexesTo (amid os ls c i true) (l ++ more) (sign q l ∷ ts)) h.string.is_token
-      (whole_step h.string.kind l more h.string.literal h.ends (string_no_backtick h.string.kind.delimiter h.string.is_token) stop k)
+  format_step : (os : List OpenDelimiter) (l : List ℕ) (ts : List Sign) → IsFormatLiteral l × IsUtf8 l → Goes os ls c i ts → Lexes (amid os ls c i true) (sign kinds.StringToken l ∷ ts)
+  format_step os l ts h k =
+      let s = h.0.string in
+      subst (λ q. Lexes (amid os ls c i true) (sign q l ∷ ts)) s.is_token
+      (whole_step s.kind l s.literal h.1 h.0.ends (string_no_backtick s.kind.delimiter s.is_token) k.apart (k.lexes false))
 
-  -- an operator of a comparison, and the space after it
-  compared_step : (os : List OpenDelimiter) (by : ConditionalOperator) {more : List ℕ} {ts : List Sign} → LexesTo (amid os ls c i false) (32 ∷ more) ts → LexesTo (amid os ls c i false) (operator_codes by ++ (32 ∷ more)) (sign (operator_kind by) (operator_codes by) ∷ ts)
-  compared_step os Equality k = token_step fixed.equals_equals k
-  compared_step os Inequality k = token_step fixed.bang_equals k
-  compared_step os RegexMatch k = token_step fixed.equals_tilde k
-  compared_step os RegexMismatch k = token_step fixed.bang_tilde k
-
-  operator_no_blank : (by : ConditionalOperator) (more : List ℕ) → head_is blank (operator_codes by ++ more) ≡ false
+  -- an operator of a comparison, after a space
+  compared_step : (os : List OpenDelimiter) (f : Bool) (by : ConditionalOperator) {ts : List Sign} → Lexes (amid os ls c i false) ts → Lexes (amid os ls c i f) (space ∷ sign (operator_kind by) (operator_codes by) ∷ ts)
   unfolding class_of
-  operator_no_blank Equality more = refl
-  operator_no_blank _ more = refl
+  compared_step os f Equality k = space_step refl (token_step fixed.equals_equals k)
+  compared_step os f Inequality k = space_step refl (token_step fixed.bang_equals k)
+  compared_step os f RegexMatch k = space_step refl (token_step fixed.equals_tilde k)
+  compared_step os f RegexMismatch k = space_step refl (token_step fixed.bang_tilde k)
 
   mutual
     unfolding class_of
 
     -- after a value the mode is known but for whether an `f` came last
-    pub lex_value : (os : List OpenDelimiter) (e : Value) {more : List ℕ} {ts : List Sign} → GoodValue e → head_is joins more ≡ false → ((f : Bool) → LexesTo (amid os ls c i f) more ts) → LexesTo (amid os ls c i false) (expr_on e more) (expr_signs e ts)
-    lex_value os (Or l r) h stop k = lex_value os l h.0 refl (λ f. space_step refl (token_step fixed.or (space_step (value_no_blank r _ h.1) (lex_value os r h.1 stop k))))
-    lex_value os (And l r) h stop k = lex_value os l h.0 refl (λ f. space_step refl (token_step fixed.and (space_step (value_no_blank r _ h.1) (lex_value os r h.1 stop k))))
-    lex_value os (Comparison l by token r) h stop k = lex_value os l h.0 refl (λ f. space_step (operator_no_blank by _) (compared_step os by (space_step (value_no_blank r _ h.1) (lex_value os r h.1 stop k))))
-    lex_value os (Concatenation l operator r) h stop k = lex_value os l h.0 refl (λ f. space_step refl (plus_step (space_step (value_no_blank r _ h.1) (lex_value os r h.1 stop k))))
-    lex_value os (ListConcatenation l operator r) h stop k = lex_value os l h.0 refl (λ f. space_step refl (token_step fixed.plus_plus (space_step (value_no_blank r _ h.1) (lex_value os r h.1 stop k))))
-    lex_value os (Join l operator r) h stop k = lex_value os l h.0 refl (λ f. space_step refl (token_step fixed.slash (space_step (value_no_blank r _ h.1) (lex_value os r h.1 stop k))))
-    lex_value os (Root operator r) h stop k = token_step fixed.slash (space_step (value_no_blank r _ h) (lex_value os r h stop k))
-    lex_value os (If c' b) h stop k =
-        word_step (codes "if") refl refl (space_step (value_no_blank c' _ h.0) (lex_value os c' h.0 refl (λ f. space_step refl (open_step fixed.brace (λ line. space_step (value_no_blank b _ h.1)
-        (lex_value (opener Brace line ∷ os) b h.1 refl (λ f. space_step refl (close_step fixed.end_brace (k false)))))))))
-    lex_value os (IfElse c' b o) {more} h stop k =
-        word_step (codes "if") refl refl (space_step (value_no_blank c' _ h.0) (lex_value os c' h.0 refl (λ f. space_step refl (open_step fixed.brace (λ line. space_step (value_no_blank b _ h.1)
-        (lex_value (opener Brace line ∷ os) b h.1 refl (λ f. space_step refl (close_step fixed.end_brace (space_step refl (word_step (codes "else") refl refl
-        (space_step (other_no_blank (is_conditional o) _ _ (value_no_blank o more h.2) refl)
-        (either (is_conditional o) (lex_value os o h.2 stop k)
-        (open_step fixed.brace (λ line. space_step (value_no_blank o _ h.2) (lex_value (opener Brace line ∷ os) o h.2 refl (λ f. space_step refl (close_step fixed.end_brace (k false))))))))))))))))))
-    lex_value os (Not e) {more} h stop k = let b = value_begins e more h in bang_step (expr_on e more) b.no_equals b.no_tilde (lex_value os e h stop k)
-    lex_value os (StringLiteral true l) {more} {ts} h stop k = word_step (codes "x") refl (literal_no_word h.kind l more h.literal) (delimited_step os kinds.StringToken l more ts h stop (k false))
-    lex_value os (StringLiteral false l) {more} {ts} h stop k = delimited_step os kinds.StringToken l more ts h stop (k false)
-    lex_value os (FormatLiteral l) {more} {ts} h stop k = word_step (codes "f") refl (literal_no_word h.string.kind l more h.string.literal) (format_step os l more ts h stop (k false))
-    lex_value os (FormatString s e ps) {more} {ts} h stop k =
-        word_step (codes "f") refl (start_no_word s _ h.0) (start_step (kind_of s) s _ h.0.part h.0.quoted h.0.opens (λ line. space_step (value_no_blank e _ h.1)
-        (lex_value (opener (FormatString (kind_of s)) line ∷ os) e h.1 refl (λ f. space_step (parts_no_blank (kind_of s) ps more h.2) (lex_parts os (kind_of s) line ps h.2 (k false))))))
-    lex_value os (Backtick l) {more} {ts} h stop k = delimited_step os kinds.Backtick l more ts h stop (k false)
-    lex_value os (Assert name c') h stop k = word_step (codes "assert") refl refl (open_step fixed.paren (λ line. lex_value (opener Paren line ∷ os) c' h refl (λ f. close_step fixed.end_paren (k false))))
-    lex_value os (AssertMessage name c' m) h stop k =
-        word_step (codes "assert") refl refl (open_step fixed.paren (λ line. lex_value (opener Paren line ∷ os) c' h.0 refl (λ f. token_step fixed.comma (space_step (value_no_blank m _ h.1)
-        (lex_value (opener Paren line ∷ os) m h.1 refl (λ f. close_step fixed.end_paren (k false)))))))
-    lex_value os (Variable n) {more} h stop k = name_step n h (head_word more stop) (k _)
-    lex_value os (Call n es) h stop k = name_step n h.0 refl (open_step fixed.paren (λ line. lex_values (opener Paren line ∷ os) es h.1 refl (λ f. close_step fixed.end_paren (k false))))
-    lex_value os (Group e) h stop k = open_step fixed.paren (λ line. lex_value (opener Paren line ∷ os) e h refl (λ f. close_step fixed.end_paren (k false)))
-    lex_value os (ListOf operator es) h stop k = open_step fixed.bracket (λ line. lex_values (opener Bracket line ∷ os) es h refl (λ f. close_step fixed.end_bracket (k false)))
+    pub lex_value : (os : List OpenDelimiter) (e : Value) {ts : List Sign} → GoodValue e → Goes os ls c i ts → Starts os ls c i (expr_signs e ts)
+    lex_value os (Or l r) h k = lex_value os l h.0 (goes refl (λ f. space_step refl (token_step fixed.or (spaced (lex_value os r h.1 k)))))
+    lex_value os (And l r) h k = lex_value os l h.0 (goes refl (λ f. space_step refl (token_step fixed.and (spaced (lex_value os r h.1 k)))))
+    lex_value os (Comparison l by token r) h k = lex_value os l h.0 (goes refl (λ f. compared_step os f by (spaced (lex_value os r h.1 k))))
+    lex_value os (Concatenation l operator r) h k = lex_value os l h.0 (goes refl (λ f. space_step refl (plus_step refl (spaced (lex_value os r h.1 k)))))
+    lex_value os (ListConcatenation l operator r) h k = lex_value os l h.0 (goes refl (λ f. space_step refl (token_step fixed.plus_plus (spaced (lex_value os r h.1 k)))))
+    lex_value os (Join l operator r) h k = lex_value os l h.0 (goes refl (λ f. space_step refl (token_step fixed.slash (spaced (lex_value os r h.1 k)))))
+    lex_value os (Root operator r) h k = starts refl refl refl (token_step fixed.slash (spaced (lex_value os r h k)))
+    lex_value os (If c' b) h k =
+        starts refl refl refl
+        (word_step (codes "if") refl refl (spaced (lex_value os c' h.0 (goes refl (λ f. space_step refl (open_step fixed.brace (λ line.
+        spaced (lex_value (opener Brace line ∷ os) b h.1 (goes refl (λ f. space_step refl (close_step fixed.end_brace (k.lexes false))))))))))))
+    lex_value os (IfElse c' b o) h k =
+        starts refl refl refl
+        (word_step (codes "if") refl refl (spaced (lex_value os c' h.0 (goes refl (λ f. space_step refl (open_step fixed.brace (λ line.
+        spaced (lex_value (opener Brace line ∷ os) b h.1 (goes refl (λ f. space_step refl (close_step fixed.end_brace (space_step refl (word_step (codes "else") refl refl
+        (spaced (either (is_conditional o) (lex_value os o h.2 k)
+        (starts refl refl refl
+        (open_step fixed.brace (λ line. spaced (lex_value (opener Brace line ∷ os) o h.2 (goes refl (λ f. space_step refl (close_step fixed.end_brace (k.lexes false)))))))))))))))))))))))
+    lex_value os (Not e) h k = let v = lex_value os e h k in starts refl refl refl (bang_step v.begins.no_equals v.begins.no_tilde v.lexes)
+    lex_value os (StringLiteral true l) {ts} h k = starts refl refl refl (word_step (codes "x") refl (literal_no_word h.0.kind l _ h.0.literal) (delimited_step os kinds.StringToken l ts h k))
+    lex_value os (StringLiteral false l) {ts} h k = record { begins = literal_begins h.0.kind l _ h.0.literal; lexes = delimited_step os kinds.StringToken l ts h k }
+    lex_value os (FormatLiteral l) {ts} h k = starts refl refl refl (word_step (codes "f") refl (literal_no_word h.0.string.kind l _ h.0.string.literal) (format_step os l ts h k))
+    lex_value os (FormatString s e ps) h k =
+        starts refl refl refl
+        (word_step (codes "f") refl (start_no_word s _ h.0.0) (start_step (kind_of s) s h.0.0.part h.0.1 h.0.0.quoted h.0.0.opens (λ line.
+        spaced (lex_value (opener (FormatString (kind_of s)) line ∷ os) e h.1 (goes refl (λ f. spaced (lex_parts os (kind_of s) line ps h.2 (k.lexes false))))))))
+    lex_value os (Backtick l) {ts} h k = record { begins = literal_begins h.0.kind l _ h.0.literal; lexes = delimited_step os kinds.Backtick l ts h k }
+    lex_value os (Assert name c') h k =
+        starts refl refl refl
+        (word_step (codes "assert") refl refl (open_step fixed.paren (λ line. (lex_value (opener Paren line ∷ os) c' h (goes refl (λ f. close_step fixed.end_paren (k.lexes false)))).lexes)))
+    lex_value os (AssertMessage name c' m) h k =
+        starts refl refl refl
+        (word_step (codes "assert") refl refl (open_step fixed.paren (λ line. (lex_value (opener Paren line ∷ os) c' h.0 (goes refl (λ f.
+        token_step fixed.comma (spaced (lex_value (opener Paren line ∷ os) m h.1 (goes refl (λ f. close_step fixed.end_paren (k.lexes false)))))))).lexes)))
+    lex_value os (Variable n) h k = named n h k
+    lex_value os (Call n es) h k = named n h.0 (goes refl (λ f. open_step fixed.paren (λ line. lex_values (opener Paren line ∷ os) es h.1 (goes refl (λ f. close_step fixed.end_paren (k.lexes false))))))
+    lex_value os (Group e) h k =
+        starts refl refl refl (open_step fixed.paren (λ line. (lex_value (opener Paren line ∷ os) e h (goes refl (λ f. close_step fixed.end_paren (k.lexes false)))).lexes))
+    lex_value os (ListOf operator es) h k =
+        starts refl refl refl (open_step fixed.bracket (λ line. lex_values (opener Bracket line ∷ os) es h (goes refl (λ f. close_step fixed.end_bracket (k.lexes false)))))
 
-    pub lex_values : (os : List OpenDelimiter) (es : Values) {more : List ℕ} {ts : List Sign} → GoodValues es → head_is joins more ≡ false → ((f : Bool) → LexesTo (amid os ls c i f) more ts) → LexesTo (amid os ls c i false) (exprs_on es more) (exprs_signs es ts)
-    lex_values os tree.none h stop k = k false
-    lex_values os (tree.more e es) {more} h stop k = lex_value os e h.0 (others_join es more stop) (lex_others os es h.1 stop k)
+    pub lex_values : (os : List OpenDelimiter) (es : Values) {ts : List Sign} → GoodValues es → Goes os ls c i ts → Lexes (amid os ls c i false) (exprs_signs es ts)
+    lex_values os tree.none h k = k.lexes false
+    lex_values os (tree.more e es) h k = (lex_value os e h.0 (lex_others os es h.1 k)).lexes
 
-    lex_others : (os : List OpenDelimiter) (es : Values) {more : List ℕ} {ts : List Sign} → GoodValues es → head_is joins more ≡ false → ((f : Bool) → LexesTo (amid os ls c i f) more ts) → (f : Bool) → LexesTo (amid os ls c i f) (others_on es more) (others_signs es ts)
-    lex_others os tree.none h stop k f = k f
-    lex_others os (tree.more e es) {more} h stop k f = token_step fixed.comma (space_step (value_no_blank e _ h.0) (lex_value os e h.0 (others_join es more stop) (lex_others os es h.1 stop k)))
+    lex_others : (os : List OpenDelimiter) (es : Values) {ts : List Sign} → GoodValues es → Goes os ls c i ts → Goes os ls c i (others_signs es ts)
+    lex_others os tree.none h k = k
+    lex_others os (tree.more e es) h k = goes refl (λ f. token_step fixed.comma (spaced (lex_value os e h.0 (lex_others os es h.1 k))))
 
-    lex_parts : (os : List OpenDelimiter) (k : StringKind) (line : ℕ) (ps : ShapeParts) {more : List ℕ} {ts : List Sign} → GoodParts k ps → LexesTo (amid os ls c i false) more ts → LexesTo (amid (opener (FormatString k) line ∷ os) ls c i false) (parts_on ps more) (parts_signs ps ts)
-    lex_parts os k line (Last l) {more} h r = end_step k line l more h r
-    lex_parts os k line (Continue l e ps) {more} h r =
-        continue_step k line l _ h.0 (space_step (value_no_blank e _ h.1)
-        (lex_value (opener (FormatString k) line ∷ os) e h.1 refl (λ f. space_step (parts_no_blank k ps more h.2) (lex_parts os k line ps h.2 r))))
+    lex_parts : (os : List OpenDelimiter) (k : StringKind) (line : ℕ) (ps : ShapeParts) {ts : List Sign} → GoodParts k ps → Lexes (amid os ls c i false) ts → Starts (opener (FormatString k) line ∷ os) ls c i (parts_signs ps ts)
+    lex_parts os k line (Last l) h r = record { begins = part_begins k true l _ h.0; lexes = end_step k line l h.0 h.1 r }
+    lex_parts os k line (Continue l e ps) h r = record {
+      begins = part_begins k false l _ h.0.0;
+      lexes = continue_step k line l h.0.0 h.0.1 (spaced (lex_value (opener (FormatString k) line ∷ os) e h.1 (goes refl (λ f. spaced (lex_parts os k line ps h.2 r)))));
+    }
+
+  -- after a space
+  pub lex_spaced : (os : List OpenDelimiter) (e : Value) {ts : List Sign} → GoodValue e → Goes os ls c i ts → Goes os ls c i (space ∷ expr_signs e ts)
+  unfolding class_of
+  lex_spaced os e h k = goes refl (λ f. spaced (lex_value os e h k))

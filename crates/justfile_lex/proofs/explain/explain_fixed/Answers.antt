@@ -1,13 +1,16 @@
-use Rattle.std.proofs.Common.{Err, sym, ◌∙◌}
-use Rattle.std.proofs.lemmas.Bool.{ne_eqb}
-use Rattle.justfile_lex.proofs.Refusals.{ampersand_is, bar_is, fixed_unknown}
+use Rattle.std.proofs.Common.{arith}
+use Rattle.std.proofs.lemmas.Grind.{common_steps}
+use Rattle.justfile_model.specs.Lexing.Next.{fixed_token}
 use Rattle.justfile_lex.proofs.explain.explain_fixed.Goals as goal
 
 pub returns-then-byte-eq38 : goal.returns-then-byte-eq38
-returns-then-byte-eq38 c = (ampersand_is _ _ c.if-byte-eq38.true).by_case c.requires.no_token ∙ (λ i. Err (sym c.explain_doubled.ensures i))
+unfolding fixed_token
+returns-then-byte-eq38 c = grind (arith, common_steps)
 
 pub returns-then-byte-eq124 : goal.returns-then-byte-eq124
-returns-then-byte-eq124 c = (bar_is _ _ c.if-byte-eq124.true).by_case c.requires.no_token ∙ (λ i. Err (sym c.explain_doubled-then-byte-eq124.ensures i))
+unfolding fixed_token
+returns-then-byte-eq124 c = grind (arith, common_steps)
 
 pub returns : goal.returns
-returns c = (fixed_unknown _ _ (ne_eqb _ 38 c.if-byte-eq38.false) (ne_eqb _ 124 c.if-byte-eq124.false)).by_case c.requires.no_token ∙ c.explain_start.ensures
+unfolding fixed_token
+returns c = grind (arith, common_steps)

@@ -1,13 +1,17 @@
-use Rattle.std.proofs.Common.{Err, ap, sym, ◌∙◌}
-use Rattle.justfile_token.specs.StringKind.{delimiter_len, kind_of}
+use Rattle.std.proofs.Common.{◌≡◌, ℕ, Bool, List, None, Err, arith}
+use Rattle.std.specs.Result.{result_ok}
+use Rattle.std.proofs.lemmas.Grind.{common_steps}
+use Rattle.justfile_vocabulary.specs.declared.token_kind.TokenKind.{TokenKind}
+use Rattle.justfile_token.specs.declared.string_kind.StringKind.{StringKind}
 use Rattle.justfile_model.specs.Lexing.LexicalFault.{Here}
-use Rattle.justfile_model.specs.Lexing.Next.{unterminated}
-use Rattle.justfile_lex.proofs.Refusals.{part_is}
+use Rattle.justfile_model.specs.Lexing.Next.{literal_part, unterminated}
 use Rattle.justfile_lex.proofs.explain.explain_literal.Goals as goal
 
+-- a literal that is no token has no end
+endless : (k : StringKind) (format : Bool) (n : ℕ) (more whole : TokenKind) (rest : List ℕ) → result_ok (literal_part k format n more whole rest) ≡ None
+    → literal_part k format n more whole rest ≡ Err (Here (unterminated k.delimiter) 0 n)
+unfolding literal_part
+endless k format n more whole rest none = grind (arith, common_steps)
+
 pub returns : goal.returns
-returns c =
-    let fault = c.unterminated_fault.ensures ∙ ap (λ k. unterminated k.delimiter) c.of_opening-kind.ensures in
-    let len = c.delimiter_len.ensures ∙ ap delimiter_len c.of_opening-kind.ensures in
-    let error = c.scan_error.ensures ∙ (λ i. Here (fault i) 0 (len i)) in
-    (part_is (kind_of c.args.rest.now) _ (delimiter_len (kind_of c.args.rest.now)) _ _ c.args.rest.now).by_case c.requires ∙ (λ i. Err (sym error i))
+returns c = grind (arith, common_steps, endless)

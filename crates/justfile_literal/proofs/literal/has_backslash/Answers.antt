@@ -1,5 +1,5 @@
 use Rattle.std.proofs.Common.{◌≡◌, Bool, true, false}
-use Rattle.std.specs.Prelude.{IsFalse, MatchBool}
+use Rattle.std.specs.Prelude.{MatchBool}
 use Rattle.justfile_literal.proofs.Verbatim.{cooks_itself}
 use Rattle.justfile_literal.proofs.literal.has_backslash.Goals as goal
 

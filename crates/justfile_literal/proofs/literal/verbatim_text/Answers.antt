@@ -1,5 +1,4 @@
-use Rattle.std.proofs.Common.{◌≡◌, ◌∙◌, Ok, true, false, ap, refl, subst, sym}
-use Rattle.justfile_token.specs.StringKind.{escapes, kind_of}
+use Rattle.std.proofs.Common.{◌≡◌, ◌∙◌, Ok, false, ap, refl, subst, sym}
 use Rattle.justfile_model.specs.LiteralTexts.Literals.{escaped}
 use Rattle.justfile_literal.proofs.LiteralTexts.{cooked_string}
 use Rattle.justfile_literal.proofs.Verbatim.{unescaped, verbatim}

@@ -1,11 +1,10 @@
-use Rattle.std.proofs.Common.{◌≤◌, Bool, true, false, cond, ap, arith, length, length-drop}
+use Rattle.std.proofs.Common.{◌≤◌, Bool, cond, ap, arith, length, length-drop}
 use Rattle.justfile_model.specs.declared.raw_text.RawText.TheVariants.{Literal}
 use Rattle.justfile_model.proofs.Lexing.CutLemmas.{raw_within}
 use Rattle.justfile_scan.proofs.literal.scan_literal_part.Goals as goal
 
 delimiter_small : (b : Bool) → cond b 3 1 ≤ 3
-delimiter_small true = omega arith
-delimiter_small false = omega arith
+delimiter_small b = grind arith
 
 pub overflow_add-opener_len-else-format : goal.overflow_add-opener_len-else-format
 overflow_add-opener_len-else-format c =
