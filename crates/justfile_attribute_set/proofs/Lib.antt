@@ -6,6 +6,8 @@ mod Firsts
 mod Groups
 mod LastKept
 mod Named
+mod PlaceMoves
+mod Placed
 mod ResolvedPairs
 mod SeenKinds
 mod Sorts

@@ -8,4 +8,5 @@ pub mod IntoNamed
 pub mod Keys
 pub mod PairSet
 pub mod Pairs
+pub mod Places
 pub mod Resolved

@@ -9,6 +9,7 @@ mod kinds;
 pub mod laws;
 mod pair_set;
 mod pairs;
+mod places;
 mod resolve;
 
 pub use crate::attribute_set::AttributeSet;

@@ -9,6 +9,7 @@ ghost use Rattle.justfile_attribute.specs.Order.{attribute_content_cmp};
 ghost use Rattle.justfile_attribute_set.specs.InOrder.{AreInOrder};
 ghost use Rattle.justfile_attribute_set.specs.Pairs.{pair_cmp};
 
+use crate::places::sort_stably;
 use justfile_attribute::{Attribute, attribute_content_cmp};
 use justfile_written::Written;
 use std::alloc::{AllocError, Global};
@@ -61,7 +62,10 @@ pub(crate) fn sort_pairs<'src>(
     if pairs.len() < 2 {
         return Ok(());
     }
-    pairs.sort_by(|pair, other| attribute_content_cmp(&pair.0, &other.0))
+    sort_stably(
+        pairs,
+        |pair, other| attribute_content_cmp(&pair.0, &other.0),
+    )
 }
 
 /// Whether the first components of these pairs are equal, one by one.

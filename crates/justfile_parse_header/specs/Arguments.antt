@@ -1,6 +1,5 @@
 -- The parameters that `arg` attributes belong to.
-use Rattle.std.proofs.Common.{refl}
-use Rattle.std.specs.Prelude.{◌≡◌, ℕ, Bool, false, List, Option, Some, None, not, if◌then◌else◌}
+use Rattle.std.specs.Prelude.{◌≡◌, ℕ, Bool, true, false, List, Option, Some, None, not, if◌then◌else◌}
 use Rattle.std.specs.BTreeSet.{BTreeSet}
 use Rattle.std.specs.Coded.{Coded-set, coded_bool}
 use Rattle.std.specs.List.{filter, find, list_any}
@@ -48,7 +47,7 @@ lesser_of (Some q) (Some r) = Some (lesser (text_of views_leaves) q (Some r))
 abbrev pub is_named : List LeafParameter → (name : List ℕ) → Bool
 is_named parameters name = list_any (λ (p : LeafParameter). bytes_eq (views_leaves.bytes p.name) name) parameters
 
--- The set has the names of these parameters, and no others.
+-- The set has all names of these parameters, and no others.
 unfoldable pub AreNames : List LeafParameter → BTreeSet (Bor (List ℕ)) → Type 0
 AreNames parameters set = (name : List ℕ) → is_named parameters name ≡ list_any (bytes_eq name) (texts_in set)
 
@@ -56,14 +55,22 @@ pub prop_names : (parameters : List LeafParameter) (set : BTreeSet (Bor (List �
 unfolding AreNames
 prop_names parameters set = hlevel (Coded-set coded_bool)
 
--- The set, if there is one, has the names of these parameters.
-abbrev pub AreKeptNames : List LeafParameter → Option (BTreeSet (Bor (List ℕ))) → Type 0
-AreKeptNames parameters None = Unit {0}
-AreKeptNames parameters (Some set) = AreNames parameters set
+-- The set has names of these parameters, and no others.
+unfoldable pub AreAmongNames : List LeafParameter → BTreeSet (Bor (List ℕ)) → Type 0
+AreAmongNames parameters set = (name : List ℕ) → list_any (bytes_eq name) (texts_in set) ≡ true → is_named parameters name ≡ true
 
-pub prop_kept : (parameters : List LeafParameter) (names : Option (BTreeSet (Bor (List ℕ)))) → IsProp (AreKeptNames parameters names)
-prop_kept parameters None = λ a b. refl
-prop_kept parameters (Some set) = prop_names parameters set
+pub prop_among : (parameters : List LeafParameter) (set : BTreeSet (Bor (List ℕ))) → IsProp (AreAmongNames parameters set)
+unfolding AreAmongNames
+prop_among parameters set = hlevel (Coded-set coded_bool)
+
+-- The set has all names of these parameters, or some.
+abbrev pub AreKeptNames : List LeafParameter → BTreeSet (Bor (List ℕ)) → (has_all : Bool) → Type 0
+AreKeptNames parameters set true = AreNames parameters set
+AreKeptNames parameters set false = AreAmongNames parameters set
+
+pub prop_kept : (parameters : List LeafParameter) (set : BTreeSet (Bor (List ℕ))) (has_all : Bool) → IsProp (AreKeptNames parameters set has_all)
+prop_kept parameters set true = prop_names parameters set
+prop_kept parameters set false = prop_among parameters set
 
 -- the name in an `arg` attribute, if it isn't the name of a parameter
 abbrev pub undefined_in : List LeafParameter → Attribute Leaf Token → Option (Quoted Leaf)

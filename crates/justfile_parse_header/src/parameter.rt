@@ -33,6 +33,9 @@ use justfile_token::{CompileError, CompileErrorKind, Expander, Fault, Name, Toke
 use justfile_vocabulary::TokenKind;
 use std::alloc::Global;
 
+/// How many names of parameters are looked up faster in their list than in a set of all names.
+const FEW_NAMES: usize = 4;
+
 /// Parses the parameters of a recipe, and the colon after them.
 #[tactic(auto, unfolding(justfile_model::specs::Readers::HeaderReader::parameters))]
 pub(crate) fn parse_parameters<'src, X: Expander>(
@@ -46,7 +49,7 @@ pub(crate) fn parse_parameters<'src, X: Expander>(
         (λ rules x. reader.parameters rules x.0.1 x.1) }
 {
     let firsts = find_firsts(attributes, parser.alloc)?;
-    let mut parameters = ReadParameters::new(parser.alloc, !firsts.is_empty());
+    let mut parameters = ReadParameters::new(parser.alloc, firsts.len() > FEW_NAMES);
     let arg_attributes = ArgAttributes { attributes, firsts };
     parse_singulars(&arg_attributes, parser, numerator, &mut parameters)?;
     parse_last(&arg_attributes, parser, numerator, &mut parameters)?;
@@ -205,14 +208,18 @@ fn parse_named<'src, X: Expander>(
     check_arg_attribute(arg, parser.alloc, *name, default.is_some(), kind)?;
     let arg_attribute = copy_arg_attribute(parser.alloc, arg)?;
     let number = next_binding_number(numerator)?;
-    parameters.push(make_parameter(
-        Name::from_identifier(*name),
-        number,
-        kind,
-        export,
-        default,
-        arg_attribute,
-    ))?;
+    let is_option = arg.is_some();
+    parameters.push(
+        make_parameter(
+            Name::from_identifier(*name),
+            number,
+            kind,
+            export,
+            default,
+            arg_attribute,
+        ),
+        is_option,
+    )?;
     Ok(())
 }
 

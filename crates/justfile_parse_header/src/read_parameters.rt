@@ -1,5 +1,5 @@
 //! The parameters of a recipe while they are parsed.
-ghost use Rattle.std.specs.Prelude.{◌≡◌, ◌∷◌, ◌++◌, [], IfSome, OnErr, OnOk, map};
+ghost use Rattle.std.specs.Prelude.{◌≡◌, ◌∷◌, ◌++◌, [], OnErr, OnOk, map};
 ghost use Rattle.std.specs.List.{list_any};
 ghost use Rattle.std.specs.Str.{bytes_eq};
 ghost use Rattle.justfile_token.specs.Token.{lexeme_of};
@@ -12,61 +12,69 @@ use justfile_recipe_header::Parameter;
 use std::alloc::{AllocError, Global};
 use std::collections::BTreeSet;
 
-/// The parameters parsed so far, and the set of their names if they will be looked up.
+/// The parameters parsed so far, and a set of their names: all, or those that are looked up again.
 #[derive(Drop)]
 pub(crate) struct ReadParameters<'src> {
     pub(crate) list: Vec<Parameter<'src>>,
-    names: Option<BTreeSet<&'src str>>,
-    ghost named: { AreKeptNames (map parameter_tree list.items) names } by { prop_kept (map parameter_tree list.items) names },
+    names: BTreeSet<&'src str>,
+    has_all_names: bool,
+    ghost named: { AreKeptNames (map parameter_tree list.items) names has_all_names } by { prop_kept (map parameter_tree list.items) names has_all_names },
 }
 
 impl<'src> ReadParameters<'src> {
-    ghost use Rattle.std.specs.Prelude.{◌≡◌, ◌∷◌, ◌++◌, [], OnOk};
+    ghost use Rattle.std.specs.Prelude.{◌≡◌, ◌∷◌, ◌++◌, ◌||◌, [], OnOk};
 
-    /// Returns an empty list of parameters. Many lookups by name are fast only if it keeps their
-    /// names.
+    /// Returns an empty list of parameters. Looking up many names is fast only if the set has all.
     #[tactic(auto, using(crate::proofs::ReadNames::none_named))]
-    pub(crate) fn new(alloc: Global, keeps_names: bool) -> Self
+    pub(crate) fn new(alloc: Global, has_all_names: bool) -> Self
         ensures { result.list.items ≡ [] }
     {
         ReadParameters {
             list: Vec::new(alloc),
-            names: no_names(alloc, keeps_names),
+            names: BTreeSet::new(alloc),
+            has_all_names,
         }
     }
 
-    /// Whether a parameter so far has this name.
+    /// Whether a parameter so far has this name. A name that the set lacks is looked for in the
+    /// list, unless the set has all names.
     pub(crate) fn is_named(&self, name: &str) -> bool
         ensures { result ≡ is_named (map parameter_tree self.now.list.items) name.now }
     {
-        match &self.names {
-            Some(names) => is_among(names, name),
-            None => any_named(&self.list, name),
+        if is_among(&self.names, name) {
+            return true;
         }
+        if self.has_all_names {
+            return false;
+        }
+        any_named(&self.list, name)
     }
 
-    /// Appends a parameter.
+    /// Whether the set gets the name of a parameter that is appended.
+    fn keeps_name(&self, is_looked_up: bool) -> bool
+        ensures { result ≡ (is_looked_up || self.now.has_all_names) }
+    {
+        is_looked_up || self.has_all_names
+    }
+
+    /// Appends a parameter. The set gets its name in any case if that is looked up again.
     ///
     /// # Errors
     ///
     /// `AllocError` if memory runs out.
     #[inline(always)]
-    pub(crate) fn push(&mut self, parameter: Parameter<'src>) -> Result<(), AllocError>
+    pub(crate) fn push(
+        &mut self,
+        parameter: Parameter<'src>,
+        is_looked_up: bool,
+    ) -> Result<(), AllocError>
         ensures { OnOk result (self.new.list.items ≡ self.old.list.items ++ parameter.entry ∷ []) }
     {
-        match &mut self.names {
-            Some(names) => push_named(&mut self.list, names, parameter),
-            None => push_parameter(&mut self.list, parameter),
+        if self.keeps_name(is_looked_up) {
+            push_named(&mut self.list, &mut self.names, parameter)
+        } else {
+            push_parameter(&mut self.list, parameter)
         }
-    }
-
-    /// Returns the parameters, in a list with exact room.
-    pub(crate) fn into_list(self) -> Vec<Parameter<'src>>
-        ensures { result.items ≡ self.entry.list.items }
-    {
-        let ReadParameters { mut list, names: _ } = self;
-        list.shrink_to_fit();
-        list
     }
 }
 
@@ -77,17 +85,6 @@ fn any_named(parameters: &[Parameter<'_>], name: &str) -> bool
     parameters
         .iter()
         .any(|parameter| parameter.name.lexeme() == name)
-}
-
-/// Returns an empty set of names if it is wanted.
-fn no_names<'src>(alloc: Global, is_wanted: bool) -> Option<BTreeSet<&'src str>>
-    ensures { IfSome result (λ names. names.keys ≡ []) }
-{
-    if is_wanted {
-        Some(BTreeSet::new(alloc))
-    } else {
-        None
-    }
 }
 
 /// Appends a parameter to a list, and adds its name to a set. Changes neither if there is an error.

@@ -1,10 +1,12 @@
 -- Invariants of the loops over the characters of a line.
-use Rattle.std.proofs.Common.{◌≡◌, ℕ, zero, suc, ◌+◌, ◌<◌, ◌≤◌, ◌^◌, ◌/◌, ◌%◌, max, if◌then◌else◌, Bool, true, false, ◌||◌, ◌&&◌, cond, List, [], ◌∷◌, ◌++◌, IsUtf8, length, take, drop, get_or, sym, ap, subst, ◌∙◌, arith, append_assoc, append-nil, length-append, zero-add, suc-add}
+use Rattle.std.proofs.Common.{◌≡◌, ℕ, zero, suc, ◌+◌, ◌<◌, ◌≤◌, ◌^◌, ◌/◌, ◌%◌, max, if◌then◌else◌, Bool, true, false, ◌&&◌, List, [], ◌∷◌, ◌++◌, IsUtf8, length, take, drop, get_or, sym, ap, subst, ◌∙◌, arith, append_assoc, append-nil, length-append, zero-add, suc-add}
 use Rattle.std.specs.Prelude.{chars, codes, encode_utf8, filter, nat_le, nat_lt, sum_by}
 use Rattle.std.proofs.Common.{refl}
 use lib.Utf8.{encodes}
-use Rattle.std.specs.List.{flat_map, list_any, repeat}
+use Rattle.std.specs.List.{flat_map, repeat}
 use Rattle.std.specs.Fmt.{IsDefaultSpec, IsPlainFormatter, HasWritten, HasWrittenStyled, decimal}
+use Rattle.std.specs.Str.{IsCharBoundary, NoCharPasses, NonePass}
+use Rattle.std.specs.Str.Pattern.{HasCharAt}
 use Rattle.std.specs.Str.Iter.{char_indices_rest, char_indices_offset, char_indices_steps}
 use Rattle.std.specs.declared.fmt.Formatter.{Formatter}
 use Rattle.std.proofs.lemmas.Bool.Decides.{Decides-ltb}
@@ -12,10 +14,11 @@ use Rattle.std.proofs.lemmas.Fmt.{decimal_step_wide}
 use Rattle.std.proofs.lemmas.Iterator.{YieldsList}
 use Rattle.std.proofs.lemmas.Iterator.Splits.{YieldsList-from_shown_while}
 use Rattle.std.proofs.lemmas.List.{nil_from_length, take-append-drop, take_more}
+use Rattle.std.proofs.lemmas.List.Concat.{flat_map-append}
 use Rattle.std.proofs.lemmas.List.Elements.{filter-append}
 use Rattle.std.proofs.lemmas.List.Sums.{sum_by-append}
-use Rattle.std.proofs.lemmas.Str.{IsUtf8-past_char, chars_past_char, chars-nil, encodes-chars}
-use Rattle.justfile_shown.specs.Columns.{is_among, is_tab, placed_from, shown_character, width_among, width_of}
+use Rattle.std.proofs.lemmas.Str.{IsUtf8-drop, IsUtf8-past_char, chars_from_encodes, chars_past_char, chars-nil, encodes-append, encodes-chars}
+use Rattle.justfile_shown.specs.Columns.{is_among, is_tab, placed_from, shown_character, shown_line, width_among, width_of}
 
 -- the characters of a line come with their places
 pub YieldsList-from_char_indices : {s : _} (line : List ℕ) → IsUtf8 line → char_indices_rest s ≡ line → char_indices_offset s ≡ 0
@@ -114,35 +117,45 @@ module _ {W : Type 0} (took : W → List ℕ → W → Type 0) where
     plain = record { bare = subst IsDefaultSpec (sym written.spec) plain.bare; flush = written.flush };
   }
 
--- one more character, after a text and the spaces of some tabs that are the characters before it
-shown_push : (cs : List ℕ) (c : ℕ) → flat_map shown_character (cs ++ c ∷ []) ≡ flat_map shown_character cs ++ shown_character c
-shown_push [] c = append-nil (shown_character c)
-shown_push (d ∷ cs) c = ap (λ t. shown_character d ++ t) (shown_push cs c) ∙ sym (append_assoc (shown_character d) (flat_map shown_character cs) (shown_character c))
-
-module _ (cs : List ℕ) (c : ℕ) (text : List ℕ) (tabs : ℕ) (all : text ++ repeat tabs (codes "    ") ≡ flat_map shown_character cs) where
-  shown_more : (b : Bool) → is_tab c ≡ b → flat_map shown_character (cs ++ c ∷ []) ≡ (text ++ repeat tabs (codes "    ")) ++ (if b then codes "    " else encode_utf8 c)
-  shown_more b e =
-      shown_push cs c ∙ ap (λ t. t ++ shown_character c) (sym all)
-      ∙ ap (λ (b : Bool). (text ++ repeat tabs (codes "    ")) ++ (if b then codes "    " else encode_utf8 c)) e
-
-  pub shown_tab : is_tab c ≡ true → text ++ repeat (tabs + 1) (codes "    ") ≡ flat_map shown_character (cs ++ c ∷ [])
-  shown_tab e =
-      ap (λ t. text ++ t) (repeat-add tabs 1 (codes "    ") ∙ ap (λ t. repeat tabs (codes "    ") ++ t) (append-nil (codes "    ")))
-      ∙ sym (append_assoc text (repeat tabs (codes "    ")) (codes "    ")) ∙ sym (shown_more true e)
-
-  pub shown_other : is_tab c ≡ false → (text ++ repeat tabs (codes "    ")) ++ encode_utf8 c ≡ flat_map shown_character (cs ++ c ∷ [])
-  shown_other e = sym (shown_more false e)
-
 -- a line without a tab shows as it is
-plain_characters : (cs : List ℕ) → list_any is_tab cs ≡ false → flat_map shown_character cs ≡ encodes cs
+plain_characters : (cs : List ℕ) → NonePass is_tab cs → flat_map shown_character cs ≡ encodes cs
 plain_characters [] h = refl
-plain_characters (c ∷ cs) h = go (is_tab c) refl (plain_characters cs)
-  where
-    go : (b : Bool) → is_tab c ≡ b → (list_any is_tab cs ≡ false → flat_map shown_character cs ≡ encodes cs) → flat_map shown_character (c ∷ cs) ≡ encodes (c ∷ cs)
-    go true e rest = let k : (true || list_any is_tab cs) ≡ false = ap (λ t. t || list_any is_tab cs) (sym e) ∙ h in absurd cc
-    go false e rest =
-        let k : (false || list_any is_tab cs) ≡ false = ap (λ t. t || list_any is_tab cs) (sym e) ∙ h in
-        ap (λ t. cond t (codes "    ") (encode_utf8 c) ++ flat_map shown_character cs) e ∙ ap (λ l. encode_utf8 c ++ l) (rest k)
+plain_characters (c ∷ cs) h =
+    ap (λ (b : Bool). (if b then codes "    " else encode_utf8 c) ++ flat_map shown_character cs) h.0 ∙ ap (λ l. encode_utf8 c ++ l) (plain_characters cs h.1)
 
-pub shown_plain : (line : List ℕ) → IsUtf8 line → list_any is_tab (chars line) ≡ false → flat_map shown_character (chars line) ≡ line
-shown_plain line utf8 h = plain_characters (chars line) h ∙ encodes-chars line utf8
+pub shown_plain : (line : List ℕ) → IsUtf8 line → NoCharPasses is_tab line → shown_line line ≡ line
+shown_plain line utf8 none = ap (flat_map shown_character) (sym (chars_from_encodes none.0 line utf8 none.1)) ∙ plain_characters none.0 none.2 ∙ none.1
+
+-- a line is what is before its first tab, four spaces, and what is after the tab
+module _ (line before after : List ℕ) (utf8 : IsUtf8 line) (after_utf8 : IsUtf8 after) (none : NoCharPasses is_tab before) (cut : line ≡ before ++ (encode_utf8 9 ++ after)) where
+  parts : chars line ≡ none.0 ++ 9 ∷ chars after
+  parts =
+      sym (chars_from_encodes (none.0 ++ 9 ∷ chars after) line utf8
+      (encodes-append none.0 (9 ∷ chars after) ∙ ap (λ l. l ++ encodes (9 ∷ chars after)) none.1 ∙ ap (λ l. before ++ (encode_utf8 9 ++ l)) (encodes-chars after after_utf8) ∙ sym cut))
+
+  pub shown_tab : shown_line line ≡ before ++ (codes "    " ++ shown_line after)
+  shown_tab =
+      ap (flat_map shown_character) parts ∙ flat_map-append shown_character none.0 (9 ∷ chars after)
+      ∙ ap (λ l. l ++ (codes "    " ++ shown_line after)) (plain_characters none.0 none.2 ∙ none.1)
+
+-- of tabs that aren't written yet, one more
+pub more_tabs : (text : List ℕ) (tabs : ℕ) (rest line : List ℕ) → (text ++ repeat tabs (codes "    ")) ++ (codes "    " ++ rest) ≡ line
+    → (text ++ repeat (tabs + 1) (codes "    ")) ++ rest ≡ line
+more_tabs text tabs rest line h =
+    let spaces = codes "    " in
+    ap (λ l. (text ++ l) ++ rest) (repeat-add tabs 1 spaces ∙ ap (λ l. repeat tabs spaces ++ l) (append-nil spaces))
+    ∙ append_assoc text (repeat tabs spaces ++ spaces) rest ∙ ap (λ l. text ++ l) (append_assoc (repeat tabs spaces) spaces rest)
+    ∙ sym (append_assoc text (repeat tabs spaces) (spaces ++ rest))
+    ∙ h
+
+-- a line that begins with a tab
+pub shown_front_tab : (line after : List ℕ) → IsUtf8 line → IsUtf8 after → line ≡ encode_utf8 9 ++ after → shown_line line ≡ codes "    " ++ shown_line after
+shown_front_tab line after utf8 after_utf8 cut = shown_tab line [] after utf8 after_utf8 ([], refl, tt) cut
+
+-- what follows a tab is a text, and the line is what is before the tab, the tab, and what follows
+pub after_tab : (line before after : List ℕ) (n m : ℕ) → IsUtf8 line → HasCharAt 9 line n m → before ≡ take n line → after ≡ drop m line
+    → IsUtf8 after × (line ≡ before ++ (encode_utf8 9 ++ after))
+after_tab line before after n m utf8 at front back = (
+  subst IsUtf8 (sym back) (IsUtf8-drop line m utf8 (subst (IsCharBoundary line) (sym at.ends) at.after)),
+  sym (take-append-drop n line) ∙ (λ k. sym front k ++ at.split k) ∙ ap (λ l. before ++ (encode_utf8 9 ++ l)) (sym back),
+)

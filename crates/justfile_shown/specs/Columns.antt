@@ -1,6 +1,8 @@
 -- Lines of a text as messages show them, and the screen columns of their characters. Positions are counted in bytes.
-use Rattle.std.specs.Prelude.{ℕ, ◌+◌, Bool, false, ◌&&◌, ◌==◌, nat_lt, nat_le, List, [], ◌∷◌, length, chars, codes, encode_utf8, filter, flat_map, slice_get, sum_by, unwrap_or, if◌then◌else◌}
+use Rattle.std.specs.Prelude.{◌≡◌, ℕ, ◌+◌, Bool, false, ◌&&◌, ◌==◌, nat_lt, nat_le, List, [], ◌∷◌, ◌++◌, length, chars, codes, encode_utf8, filter, flat_map, slice_get, sum_by, unwrap_or, if◌then◌else◌}
+use Rattle.std.specs.Fmt.{HasWritten, IsPlainFormatter}
 use Rattle.std.specs.Str.Lines.{lines}
+use Rattle.std.specs.declared.fmt.Formatter.{Formatter}
 use Rattle.unicode_width.specs.Width.{char_width}
 use Rattle.justfile_vocabulary.specs.ByteNames as byte
 
@@ -18,6 +20,11 @@ shown_character c = if c == byte.tab then codes "    " else encode_utf8 c
 -- a line as messages show it
 abbrev pub shown_line : List ℕ → List ℕ
 shown_line line = flat_map shown_character (chars line)
+
+-- A text is written, and a line as it is shown is this text and then the rest of the line as it is shown.
+abbrev pub WritesFront : {W : Type 0} → (W → List ℕ → W → Type 0) → Formatter W → List ℕ → List ℕ → Formatter W → Type 0
+WritesFront took f line rest g =
+    IsPlainFormatter f → (text : List ℕ) × HasWritten took f text g × (text ++ shown_line rest ≡ shown_line line)
 
 -- the number of columns that a character takes on the screen; 0 for a character without a width
 abbrev pub width_of : ℕ → ℕ

@@ -1,10 +1,10 @@
 //! Lines of a text as messages show them, and the screen columns of their characters.
-ghost use Rattle.std.specs.Prelude.{◌≡◌, ◌+◌, ◌<◌, ◌≤◌, ◌↔◌, IsTrue, Some, chars, codes, length, max};
+ghost use Rattle.std.specs.Prelude.{◌≡◌, ◌+◌, ◌<◌, ◌≤◌, ◌↔◌, IsTrue, IfOk, IsUtf8, Some, chars, codes, length, max};
 ghost use Rattle.std.specs.Fmt.{DisplaysOnOk, decimal};
-ghost use Rattle.std.specs.List.{list_any, repeat, slice_get};
+ghost use Rattle.std.specs.List.{repeat, slice_get};
 ghost use Rattle.std.specs.Option.{option_map};
 ghost use Rattle.std.specs.Str.Lines.{lines};
-ghost use Rattle.justfile_shown.specs.Columns.{is_among, is_tab, line_at, shown_line, width_in, width_of};
+ghost use Rattle.justfile_shown.specs.Columns.{WritesFront, is_among, line_at, shown_line, width_in, width_of};
 
 use std::fmt;
 use unicode_width::UnicodeWidthChar;
@@ -107,40 +107,48 @@ pub fn write_columns<W: fmt::Write>(
     Ok(())
 }
 
-/// Whether a line has a tab.
-fn has_tab(line: &str) -> bool
-    ensures { result ≡ list_any is_tab (chars line.now) }
-{
-    line.chars().any(|character| character == '\t')
-}
-
 /// How many tabs, at most, are written as one text.
 const TABS_AT_ONCE: usize = 8;
 /// The spaces for so many tabs.
 const SPACES: &str = "                                ";
 
+/// Writes four spaces for each tab at the front of a line, and returns what follows these tabs.
+fn write_tabs<'a, W: fmt::Write>(
+    line: &'a str,
+    f: &mut fmt::Formatter<W>,
+) -> Result<&'a str, fmt::Error>
+    ensures rest { IfOk result (λ rest. IsUtf8 rest.now × (length rest.now ≤ length line.now)) }
+    ensures front { IfOk result
+        (λ rest. WritesFront W.write_str_gives f.old line.now rest.now f.new) }
+{
+    let mut rest = line;
+    let mut tabs = 0;
+    while let Some(after) = rest.strip_prefix('\t') {
+        rest = after;
+        tabs += 1;
+        if tabs == TABS_AT_ONCE {
+            f.write_str(SPACES)?;
+            tabs = 0;
+        }
+    }
+    f.write_repeated("    ", tabs)?;
+    Ok(rest)
+}
+
 /// Writes a line, with four spaces for each tab.
 pub fn write_line<W: fmt::Write>(line: &str, f: &mut fmt::Formatter<W>) -> fmt::Result
     ensures { DisplaysOnOk W.write_str_gives f.old result (Some (shown_line line.now)) f.new }
 {
-    if !has_tab(line) {
-        return f.write_str(line);
+    let mut rest = line;
+    loop {
+        let text = write_tabs(rest, f)?;
+        let Some((before, after)) = text.split_once('\t') else {
+            return f.write_str(text);
+        };
+        f.write_str(before)?;
+        f.write_str("    ")?;
+        rest = after;
     }
-    let mut tabs = 0;
-    for character in line.chars() {
-        if character == '\t' {
-            tabs += 1;
-            if tabs == TABS_AT_ONCE {
-                f.write_str(SPACES)?;
-                tabs = 0;
-            }
-        } else {
-            f.write_repeated("    ", tabs)?;
-            tabs = 0;
-            f.write_char(character)?;
-        }
-    }
-    f.write_repeated("    ", tabs)
 }
 
 /// Writes a caret for each column of the characters that begin in the `count` bytes of the line

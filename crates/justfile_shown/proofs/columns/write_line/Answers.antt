@@ -1,64 +1,53 @@
-use Rattle.std.proofs.Common.{◌≡◌, ◌+◌, ◌++◌, true, false, append-nil, arith, codes, refl, rules, sym, ap, ◌∙◌}
+use Rattle.std.proofs.Common.{◌++◌, append_assoc, arith, codes, refl, sym, ap, subst, ◌∙◌}
 use Rattle.std.proofs.Output.{has_written_append, has_written_of_eq}
-use Rattle.std.specs.List.{flat_map, repeat}
-use Rattle.std.specs.Prelude.{encode_utf8}
-use Rattle.std.proofs.lemmas.Iterator.{YieldsList-from_chars}
-use Rattle.std.proofs.lemmas.Iterator.Consumers.{YieldsList-end}
-use Rattle.std.proofs.lemmas.List.{map-id}
-use Rattle.justfile_shown.specs.Columns.{is_tab, shown_character}
-use Rattle.justfile_shown.proofs.ColumnLemmas.{has_written_from_styled, shown_other, shown_plain, shown_tab}
+use Rattle.std.specs.Str.{NoCharPasses}
+use Rattle.justfile_shown.specs.Columns.{is_tab, shown_line}
+use Rattle.justfile_shown.proofs.ColumnLemmas.{after_tab, shown_plain, shown_tab}
 use Rattle.justfile_shown.proofs.columns.write_line.Goals as goal
 
-pub returns : goal.returns
-returns g c = λ plain ok.
-    let end = YieldsList-end (YieldsList-from_chars c.args.line.now c.utf8.line cc) c.loop-character.yielded _ c.loop-character.yielded_by _ _ c.in-None.is c.next.ensures.steps in
-    let so_far = c.loop-character.invariant in
-    let before = so_far.written plain in
-    let spaces = has_written_from_styled _ _ _ _ before.plain (c.write_repeated-2.ensures.styled before.plain.flush ok) in
-    has_written_of_eq _ _ _ _ _ (so_far.all ∙ ap (flat_map shown_character) (sym (map-id _) ∙ end.0)) (has_written_append _ _ _ _ _ _ before spaces)
+pub loop-text-smaller : goal.loop-text-smaller
+loop-text-smaller g c =
+    let (n, m, found, front, back, _, _, size) = c.in-Some.ensures.cases in
+    omega (arith, found.1.ends, size, c.in_ok-text.ensures.rest.1)
 
-pub returns-then-not-has_tab : goal.returns-then-not-has_tab
-returns-then-not-has_tab g c = λ plain ok.
-    has_written_of_eq _ _ _ _ _ (sym (shown_plain c.args.line.now c.utf8.line (sym c.has_tab.ensures ∙ c.if-not-has_tab.true))) (c.write_str.ensures.writes plain ok)
+pub loop-text-preserved : goal.loop-text-preserved
+loop-text-preserved g c =
+    let text = c.in_ok-text.text.now in
+    let before = c.in-Some.before.now in
+    let after = c.in-Some.after.now in
+    let utf8 = c.in_ok-text.ensures.rest.0 in
+    let (n, m, found, front, back, _, _, _) = c.in-Some.ensures.cases in
+    let (none, at) = found in
+    let later = after_tab text before after n m utf8 at front back in
+    let shown = shown_tab text before after utf8 later.0 (subst (NoCharPasses is_tab) (sym front) none) later.1 in (
+      later.0,
+      λ plain.
+          let (start, started, whole) = c.loop-text.invariant.1 plain in
+          let (tabs, tabbed, rest) = c.in_ok-text.ensures.front started.plain in
+          let so_far = has_written_append _ _ _ _ _ _ started tabbed in
+          let both = has_written_append _ _ _ _ _ _ so_far (c.in_ok-write_str.ensures.writes so_far.plain refl) in
+          let all = has_written_append _ _ _ _ _ _ both (c.in_ok-write_str-2.ensures.writes both.plain refl) in (
+            ((start ++ tabs) ++ before) ++ codes "    ",
+            all,
+            append_assoc ((start ++ tabs) ++ before) (codes "    ") (shown_line after)
+                ∙ append_assoc (start ++ tabs) before (codes "    " ++ shown_line after)
+                ∙ ap (λ l. (start ++ tabs) ++ l) (sym shown)
+                ∙ append_assoc start tabs (shown_line text)
+                ∙ ap (λ l. start ++ l) rest
+                ∙ whole,
+          ),
+    )
 
-pub loop-character-preserved-then-tabs-eq-TABS_AT_ONCE : goal.loop-character-preserved-then-tabs-eq-TABS_AT_ONCE
-loop-character-preserved-then-tabs-eq-TABS_AT_ONCE g c =
-    let i = c.loop-character.invariant in
-    let tab : is_tab c.in-Some.character ≡ true = search (rules, c.if-character-eq9.true) in
-    let full : c.loop-character.tabs + 1 ≡ 8 = search (rules, c.if-tabs-eq-TABS_AT_ONCE.true) in
-    record {
-      text = i.text ++ codes "                                ";
-      few = omega arith;
-      all =
-          append-nil _ ∙ ap (λ n. i.text ++ repeat n (codes "    ")) (sym full)
-          ∙ shown_tab c.loop-character.yielded c.in-Some.character i.text c.loop-character.tabs i.all tab;
-      written = λ plain.
-          let before = i.written plain in
-          has_written_append _ _ _ _ _ _ before (c.in_ok-write_str.ensures.writes before.plain refl);
-    }
-
-pub loop-character-preserved-else-tabs-eq-TABS_AT_ONCE : goal.loop-character-preserved-else-tabs-eq-TABS_AT_ONCE
-loop-character-preserved-else-tabs-eq-TABS_AT_ONCE g c =
-    let i = c.loop-character.invariant in
-    let tab : is_tab c.in-Some.character ≡ true = search (rules, c.if-character-eq9.true) in
-    record {
-      text = i.text;
-      few = omega (arith, i.few, c.if-tabs-eq-TABS_AT_ONCE.false);
-      all = shown_tab c.loop-character.yielded c.in-Some.character i.text c.loop-character.tabs i.all tab;
-      written = i.written;
-    }
-
-pub loop-character-preserved : goal.loop-character-preserved
-loop-character-preserved g c =
-    let i = c.loop-character.invariant in
-    let other : is_tab c.in-Some.character ≡ false = search (rules, c.if-character-eq9.false) in
-    record {
-      text = (i.text ++ repeat c.loop-character.tabs (codes "    ")) ++ encode_utf8 c.in-Some.character;
-      few = omega arith;
-      all = append-nil _ ∙ shown_other c.loop-character.yielded c.in-Some.character i.text c.loop-character.tabs i.all other;
-      written = λ plain.
-          let before = i.written plain in
-          let spaces = has_written_from_styled _ _ _ _ before.plain (c.in_ok-write_repeated.ensures.styled before.plain.flush refl) in
-          let both = has_written_append _ _ _ _ _ _ before spaces in
-          has_written_append _ _ _ _ _ _ both (c.in_ok-write_char.ensures.writes both.plain refl);
-    }
+pub returns-in_default : goal.returns-in_default
+returns-in_default g c = λ plain ok.
+    let text = c.in_ok-text.text.now in
+    let (start, started, whole) = c.loop-text.invariant.1 plain in
+    let (tabs, tabbed, rest) = c.in_ok-text.ensures.front started.plain in
+    let so_far = has_written_append _ _ _ _ _ _ started tabbed in
+    let last = has_written_append _ _ _ _ _ _ so_far (c.write_str.ensures.writes so_far.plain ok) in
+    has_written_of_eq _ _ _ _ _
+    (append_assoc start tabs text
+    ∙ ap (λ l. start ++ (tabs ++ l)) (sym (shown_plain text c.in_ok-text.ensures.rest.0 c.in_default.ensures.cases))
+    ∙ ap (λ l. start ++ l) rest
+    ∙ whole)
+    last
