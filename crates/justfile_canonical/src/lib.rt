@@ -8,3 +8,5 @@ pub mod laws;
 pub mod parts;
 pub mod reading;
 pub mod root;
+
+pub use justfile_parse::{Parser, RECURSION_LIMIT, parse_part};

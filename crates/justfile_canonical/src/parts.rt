@@ -11,8 +11,7 @@ ghost use Rattle.justfile_canonical.specs.Parts.{HasLineEnd, HasPrinted, IsChose
 use crate::root::parse_root;
 use justfile_ast::{Ast, Separator};
 use justfile_numbers::Version;
-use justfile_parse::RECURSION_LIMIT;
-use justfile_parts::parse_part;
+use justfile_parse::{RECURSION_LIMIT, parse_part};
 use justfile_spans::find_cut;
 use justfile_token::{Source, Unchanged};
 use justfile_vocabulary::Indentation;

@@ -3,7 +3,7 @@ use Rattle.std.specs.Prelude.{◌≡◌, ◌≢◌, ℕ, List, Option, IfSome, S
 use Rattle.std.specs.Str.{IsUtf8}
 use Rattle.justfile_format.specs.Arguments.{AsksCheck, AsksFormat}
 use Rattle.justfile_writing.specs.Failure.{failure_text, status_of}
-use Rattle.justfile_canonical.specs.Formatting.{IsUnprintable, LacksNumbers}
+use Rattle.justfile_writing.specs.Formatting.{IsUnprintable, LacksNumbers}
 use Rattle.justfile_writing.specs.Formatting.{FormatsBeginning, IsRejection}
 use Rattle.system_run.specs.Beginning.{AppendsBeginning}
 use Rattle.justfile_writing.specs.declared.failure.Failure.{Failure}

@@ -5,7 +5,7 @@ ghost use Rattle.std.specs.Str.{IsUtf8};
 ghost use Rattle.justfile_writing.specs.declared.failure.Failure.TheVariants as failures;
 ghost use Rattle.justfile_format.specs.Arguments.{AsksCheck, AsksFormat};
 ghost use Rattle.justfile_writing.specs.Failure.{IfRejected};
-ghost use Rattle.justfile_canonical.specs.Formatting.{HasNone, IsFormatted, IsUnprintable, LacksNumbers};
+ghost use Rattle.justfile_writing.specs.Formatting.{HasNone, IsFormatted, IsUnprintable, LacksNumbers};
 ghost use Rattle.justfile_writing.specs.Formatting.{IsRejection, Formats, Differs};
 ghost use Rattle.justfile_format.specs.Outcome.{Fails};
 ghost use Rattle.justfile_writing.specs.Formatting.{FormatsBeginning};

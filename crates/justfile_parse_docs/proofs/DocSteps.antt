@@ -5,6 +5,7 @@ use Rattle.std.specs.List.{starts_with}
 use Rattle.std.specs.Option.{option_map}
 use Rattle.std.proofs.lemmas.List.{map-append, reverse-append, take_all, take_more}
 use Rattle.std.proofs.lemmas.List.Elements.{All-get_or}
+use Rattle.std.proofs.lemmas.Option.{same_Some}
 use Rattle.std.specs.Global.{Global}
 use Rattle.justfile_attribute.proofs.Ordered.{kind_seen}
 use Rattle.justfile_attribute.specs.Attribute.{leaf_attribute_of}
@@ -28,9 +29,6 @@ use Rattle.justfile_parse_item.specs.DerivedFields.{HaveDerivedFields, HasDerive
 
 -- ---- an item among others
 
-some_is : {X : Type 0} (x y : X) → ◌≡◌ {A = Option X} (Some x) (Some y) → x ≡ y
-some_is x y e = cc
-
 -- the items up to one, from the last on, are that one and those before it
 last_first : (xs : List Item) (n : ℕ) (x : Item) → n < length xs → x ≡ get_or xs n x → reverse (map item_tree (take (n + 1) xs)) ≡ item_tree x ∷ reverse (map item_tree (take n xs))
 last_first xs n x h e =
@@ -47,33 +45,22 @@ pub comment_begins : (xs : List Item) (n : ℕ) (x : Item) → n < length xs →
 comment_begins xs n x h e fields text is = go x (item_fields xs n x h e fields) is
   where
     go : (y : Item) → HasDerivedItemFields y → comment_of (item_tree y) ≡ Some text → IsTrue (starts_with nat_eq text (codes "#"))
-    go (items.Comment other) w k = subst (λ (t : List ℕ). IsTrue (starts_with nat_eq t (codes "#"))) (some_is other.now text k) w
-    go (items.Alias a) w k = cc
-    go (items.Assignment a) w k = cc
-    go (items.Function f) w k = cc
-    go (items.Import attributes optional relative) w k = cc
-    go (items.Module attributes doc name optional relative) w k = cc
-    go items.Newline w k = cc
-    go (items.Recipe r) w k = cc
-    go (items.Setting set) w k = cc
-    go (items.Unexport attributes name) w k = cc
+    go (items.Comment other) w k = subst (λ (t : List ℕ). IsTrue (starts_with nat_eq t (codes "#"))) (same_Some other.now text k) w
+    go _ w k = cc
 
 -- ---- the doc that ends them
 
 pub line_end : (i : LeafItem) → is_line_end i ≡ true → i ≡ tree.Newline
 line_end tree.Newline h = refl
-line_end (tree.Comment text) h = cc
-line_end (tree.Construct entries content) h = cc
+line_end _ h = cc
 
 comment_is : (i : LeafItem) (text : List ℕ) → comment_of i ≡ Some text → i ≡ tree.Comment text
-comment_is tree.Newline text h = cc
-comment_is (tree.Comment other) text h = ap (λ (t : List ℕ). tree.Comment t) (some_is other text h)
-comment_is (tree.Construct entries content) text h = cc
+comment_is (tree.Comment other) text h = ap (λ (t : List ℕ). tree.Comment t) (same_Some other text h)
+comment_is _ text h = cc
 
 no_start : (i : LeafItem) (others : List LeafItem) (text : List ℕ) → is_line_end i ≡ false → doc_first (tree.Newline ∷ tree.Comment text ∷ i ∷ others) ≡ None
 no_start tree.Newline others text h = cc
-no_start (tree.Comment other) others text h = refl
-no_start (tree.Construct entries content) others text h = refl
+no_start _ others text h = refl
 
 -- the last item ends a line, and the one before it is a comment
 module _ (xs : List Item) (k m n : ℕ) (last : k + 1 ≡ length xs) (second : m + 1 ≡ k) (third : n + 1 ≡ m) (x y z : Item) (x_is : x ≡ get_or xs k x) (y_is : y ≡ get_or xs m y)

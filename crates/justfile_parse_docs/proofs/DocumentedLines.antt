@@ -43,8 +43,7 @@ all_documented plain items n s found documents read = record { plain = plain; re
 pub line_refused : (old : List Item) (found : ReadItems) (error : ParseError) (s : State) (wanting : ReadError)
     → IsParseError error s (after_numbered (map item_tree old) found ≡ Err wanting) (after_numbered (map item_tree old) found) → IsParseError error s (found ≡ Err wanting) found
 line_refused old found error s wanting h =
-    let fails : (e : ReadError) → after_numbered (map item_tree old) found ≡ Err e → found ≡ Err e = λ e. refused_first (map item_tree old) e found in
-    failed (after_numbered (map item_tree old) found) found fails error s _ _ (fails wanting) h
+    failed (after_numbered (map item_tree old) found) found (λ e. refused_first (map item_tree old) e found) error s _ _ (refused_first (map item_tree old) wanting found) h
 
 -- a line whose items were appended, and then got their docs, unless memory ran out
 module _ (old added new : List Item) (n : Numerator) (s : State) (found : ReadItems) where

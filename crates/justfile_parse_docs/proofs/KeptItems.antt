@@ -64,42 +64,38 @@ cut_fields xs ys n e h = subst (All HasDerivedItemFields) (sym e) (All-take HasD
 -- it takes no doc before it
 pub takes_no_doc : (i : LeafItem) (doc : Option (List ℕ)) → item_can_take_doc i ≡ false → doc_taken i doc ≡ None
 takes_no_doc i None h = refl
-takes_no_doc tree.Newline (Some doc) h = refl
-takes_no_doc (tree.Comment text) (Some doc) h = refl
 takes_no_doc (tree.Construct entries content) (Some doc) h = ap (λ (b : Bool). cond b (Some (tree.Construct entries (redocumented (Some doc) content))) None) h
+takes_no_doc _ (Some doc) h = refl
 
 module _ (xs : List Item) (kept index : ℕ) (x : Item) (order : kept ≤ index) (within : index < length xs) (x_is : x ≡ get_or xs index x) where
   abbrev before : List LeafItem
   before = map item_tree (take kept xs)
 
-  -- the item at the index is the next of those that are left
-  next_taken : taken_docs kept index xs ≡ with_items (with_item before (item_tree x)) (map item_tree (drop (index + 1) xs))
-  next_taken =
-      ap (λ (l : List Item). with_items before (map item_tree l))
-      (drop_more xs index x within ∙ ap (λ (y : Item). y ∷ drop (index + 1) xs) (sym x_is))
+  -- the item at the index is done, and those after it stay
+  next_done : (ys done : List Item) (k : ℕ) → take k ys ≡ done → drop (index + 1) ys ≡ drop (index + 1) xs → map item_tree done ≡ with_item before (item_tree x)
+      → taken_docs k (index + 1) ys ≡ taken_docs kept index xs
+  next_done ys done k done_are others_are trees =
+      (λ i. with_items (map item_tree (done_are i)) (map item_tree (others_are i)))
+      ∙ ap (λ (l : List LeafItem). with_items l (map item_tree (drop (index + 1) xs))) trees
+      ∙ sym (ap (λ (l : List Item). with_items before (map item_tree l)) (drop_more xs index x within ∙ ap (λ (y : Item). y ∷ drop (index + 1) xs) (sym x_is)))
 
   -- as it is
   pub kept_plain : (ys : List Item) → ys ≡ swap xs kept index → doc_taken (item_tree x) (doc_before before) ≡ None → taken_docs (kept + 1) (index + 1) ys ≡ taken_docs kept index xs
   kept_plain ys e none =
-      ap (λ (l : List Item). with_items (map item_tree l) (map item_tree (drop (index + 1) ys)))
+      next_done ys (take kept xs ++ x ∷ []) (kept + 1)
       (moved_front xs ys kept index x order within e ∙ ap (λ (y : Item). take kept xs ++ y ∷ []) (sym x_is))
-      ∙ ap (λ (l : List Item). with_items (map item_tree (take kept xs ++ x ∷ [])) (map item_tree l)) (moved_rest xs ys kept index x order within e)
-      ∙ ap (λ (l : List LeafItem). with_items l (map item_tree (drop (index + 1) xs)))
+      (moved_rest xs ys kept index x order within e)
       (map-append item_tree (take kept xs) (x ∷ []) ∙ sym (ap (with_doc before (item_tree x)) none))
-      ∙ sym next_taken
 
   -- as the end of a line, which is made anew
   pub kept_newline : (ys : List Item) → ys ≡ set xs kept items.Newline → is_line_end (item_tree x) ≡ true → taken_docs (kept + 1) (index + 1) ys ≡ taken_docs kept index xs
   kept_newline ys e newline =
-      ap (λ (l : List Item). with_items (map item_tree l) (map item_tree (drop (index + 1) ys)))
+      next_done ys (take kept xs ++ items.Newline ∷ []) (kept + 1)
       (ap (take (kept + 1)) e ∙ take_more_set xs kept items.Newline (omega (arith, order, within)))
-      ∙ ap (λ (l : List Item). with_items (map item_tree (take kept xs ++ items.Newline ∷ [])) (map item_tree l))
       (ap (drop (index + 1)) e ∙ drop-set-lt (index + 1) xs kept items.Newline (omega (arith, order)))
-      ∙ ap (λ (l : List LeafItem). with_items l (map item_tree (drop (index + 1) xs)))
       (map-append item_tree (take kept xs) (items.Newline ∷ [])
       ∙ sym (ap (with_doc before tree.Newline) (takes_no_doc tree.Newline (doc_before before) refl))
       ∙ ap (with_item before) (sym (line_end (item_tree x) newline)))
-      ∙ sym next_taken
 
   -- with a doc, instead of the last two
   module _ (n m : ℕ) (two : n + 2 ≡ kept) (one : m ≡ n + 1) (y : Item) (zs ys : List Item) (zs_are : zs ≡ set xs index y) (e : ys ≡ swap zs n index) where
@@ -132,21 +128,15 @@ module _ (xs : List Item) (kept index : ℕ) (x : Item) (order : kept ≤ index)
 
     pub kept_documented : doc_taken (item_tree x) (doc_before before) ≡ Some (item_tree y) → taken_docs m (index + 1) ys ≡ taken_docs kept index xs
     kept_documented taken =
-        ap (λ (i : ℕ). taken_docs i (index + 1) ys) one
-        ∙ ap (λ (l : List Item). with_items (map item_tree l) (map item_tree (drop (index + 1) ys))) front
-        ∙ ap (λ (l : List Item). with_items (map item_tree (take n xs ++ y ∷ [])) (map item_tree l)) rest
-        ∙ ap (λ (l : List LeafItem). with_items l (map item_tree (drop (index + 1) xs)))
+        next_done ys (take n xs ++ y ∷ []) m (ap (λ (i : ℕ). take i ys) one ∙ front) rest
         (map-append item_tree (take n xs) (y ∷ []) ∙ ap (λ (l : List LeafItem). l ++ item_tree y ∷ []) (sym all_but_two)
         ∙ sym (ap (with_doc before (item_tree x)) taken))
-        ∙ sym next_taken
 
 -- items that end with a doc are two or more
 two_first : (items : List LeafItem) (doc : List ℕ) → doc_first items ≡ Some doc → 2 ≤ length items
-two_first [] doc h = cc
 two_first (tree.Newline ∷ []) doc h = cc
-two_first (tree.Comment text ∷ []) doc h = cc
-two_first (tree.Construct entries content ∷ []) doc h = cc
 two_first (i ∷ j ∷ others) doc h = omega arith
+two_first _ doc h = cc
 
 pub two_kept : (xs : List Item) (kept : ℕ) (doc : List ℕ) → doc_before (map item_tree (take kept xs)) ≡ Some doc → 2 ≤ kept
 two_kept xs kept doc h =
@@ -158,9 +148,6 @@ pub found_taken : (i with_this : LeafItem) (found : Option (List ℕ)) (doc text
     → doc_taken i found ≡ Some with_this
 found_taken i with_this found doc text is same taken =
     ap (doc_taken i) is ∙ ap (λ (t : List ℕ). item_with_doc sets_doc t i) (sym same) ∙ sym taken
-
-pub none_taken : (i : LeafItem) (found : Option (List ℕ)) → found ≡ None → doc_taken i found ≡ None
-none_taken i found h = ap (doc_taken i) h
 
 -- ---- when none are left
 

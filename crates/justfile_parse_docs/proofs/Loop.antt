@@ -36,23 +36,17 @@ Items = List (OrderedItem Leaf Token ℕ)
 pub taken : (done all : Items) (m : Counters) (rest : State) (found : ReadItems) → after_numbered done found ≡ Ok ((all, m), rest) → (more : Items) × (found ≡ Ok ((more, m), rest)) × (done ++ more ≡ all)
 unfolding after_numbered
 taken done all m rest (Ok x) h =
-    let pair : ◌≡◌ {A = (Items × Counters) × State} ((done ++ x.0.0, x.0.1), x.1) ((all, m), rest) = inside _ _ h in (
+    let pair : ◌≡◌ {A = (Items × Counters) × State} ((done ++ x.0.0, x.0.1), x.1) ((all, m), rest) = cc in (
       x.0.0,
       ap (λ (p : Counters × State). Ok ((x.0.0, p.0), p.1)) (ap (λ (p : (Items × Counters) × State). (p.0.1, p.1)) pair),
       ap (λ (p : (Items × Counters) × State). p.0.0) pair,
     )
-  where
-    inside : (a b : (Items × Counters) × State) → ◌≡◌ {A = ReadItems} (Ok a) (Ok b) → a ≡ b
-    inside a b h = cc
 taken done all m rest (Err e) h = cc
 
 pub refused_first : (done : Items) (e : ReadError) (found : ReadItems) → after_numbered done found ≡ Err e → found ≡ Err e
 unfolding after_numbered
 refused_first done e (Ok x) h = cc
-refused_first done e (Err f) h = ap (λ (g : ReadError). Err g) (inside f e h)
-  where
-    inside : (a b : ReadError) → ◌≡◌ {A = ReadItems} (Err a) (Err b) → a ≡ b
-    inside a b h = cc
+refused_first done e (Err f) h = h
 
 -- a line takes a token
 pub line_shrinks : (q : State) (n m : Counters) (more : Items) (rest : State) → line n q ≡ Ok ((more, m), rest) → length rest.left < length q.left

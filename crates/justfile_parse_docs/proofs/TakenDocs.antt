@@ -8,6 +8,7 @@ use Rattle.justfile_model.specs.Grammars.Files.{sets_doc}
 use Rattle.justfile_model.specs.Trees.Tree as tree
 use Rattle.justfile_model.specs.Trees.Tree.{Content, Entry, Comment, Construct, Newline}
 use Rattle.justfile_parse_docs.specs.Docs.{LeafItem, doc_before, doc_first, doc_taken, with_doc, with_item, with_items}
+use Rattle.justfile_parse_docs.proofs.KeptItems.{takes_no_doc}
 use Rattle.justfile_expression.specs.LeafTree.{Leaf}
 
 abbrev Items : Type 0
@@ -23,11 +24,8 @@ comment_stays : (text : List ℕ) (items : Items) → docs_from Other (Comment t
 comment_stays text items = go (docs_from Other items)
   where
     go : (l : Items) → taken sets_doc Other (Comment text) l ≡ Comment text ∷ l
-    go [] = refl
     go (Newline ∷ []) = refl
-    go (Newline ∷ i ∷ l) = refl
-    go (Comment t ∷ l) = refl
-    go (Construct entries content ∷ l) = refl
+    go _ = refl
 
 before_comment : (b : Before) (text next : List ℕ) (items : Items) → docs_from b (Comment text ∷ Comment next ∷ items) ≡ Comment text ∷ docs_from Other (Comment next ∷ items)
 before_comment b text next items =
@@ -69,21 +67,17 @@ has_doc_already entries _ doc other = refl
 -- what begins with a comment takes no doc
 comment_takes_none : (b : Before) (text : List ℕ) (items : Items) → TakesNone (taken sets_doc b (Comment text) items)
 unfolding TakesNone
-comment_takes_none b text [] = λ doc. refl
-comment_takes_none b text (Newline ∷ []) = λ doc. refl
-comment_takes_none b text (Comment t ∷ items) = λ doc. refl
-comment_takes_none b text (Construct entries content ∷ items) = λ doc. refl
 comment_takes_none b text (Newline ∷ i ∷ items) = go i (doc_in b text)
   where
     go : (i : LeafItem) (o : Option (List ℕ)) → TakesNone (comment_taken sets_doc text i items o)
     go i None = λ doc. refl
-    go Newline (Some doc) = λ other. refl
-    go (Comment t) (Some doc) = λ other. refl
     go (Construct entries content) (Some doc) = by (can_take_doc sets_doc entries content)
       where
         by : (w : Bool) → TakesNone (doc_or_comment sets_doc text (Construct entries content) items (cond w (Some (Construct entries (redocumented (Some doc) content))) None))
         by true = λ other. has_doc_already entries content doc other
         by false = λ other. refl
+    go _ (Some doc) = λ other. refl
+comment_takes_none b text _ = λ doc. refl
 
 before_line : (b : Before) (text next : List ℕ) (items : Items)
     → docs_from b (Comment text ∷ Newline ∷ Comment next ∷ items) ≡ Comment text ∷ Newline ∷ docs_from LineEnd (Comment next ∷ items)
@@ -103,44 +97,28 @@ IsSettled (Newline ∷ Comment text ∷ others) = ⊥
 IsSettled others = Unit {0}
 
 no_doc_first : (others : Items) → IsSettled others → doc_first others ≡ None
-no_doc_first [] h = refl
 no_doc_first (Comment text ∷ others) h = absurd h
-no_doc_first (Construct entries content ∷ others) h = refl
-no_doc_first (Newline ∷ []) h = refl
-no_doc_first (Newline ∷ Newline ∷ others) h = refl
 no_doc_first (Newline ∷ Comment text ∷ others) h = absurd h
-no_doc_first (Newline ∷ Construct entries content ∷ others) h = refl
+no_doc_first _ h = refl
 
 then_newline : (others : Items) → IsSettled others → IsSettled (Newline ∷ others)
-then_newline [] h = tt
 then_newline (Comment text ∷ others) h = absurd h
-then_newline (Newline ∷ others) h = tt
-then_newline (Construct entries content ∷ others) h = tt
+then_newline _ h = tt
 
 -- the doc that a comment and a line end are
 doc_here : (text : List ℕ) (others : Items) → doc_first (Newline ∷ Comment text ∷ others) ≡ doc_in (before_of others) text
-doc_here text [] = refl
 doc_here text (Newline ∷ others) = refl
-doc_here text (Comment t ∷ others) = refl
-doc_here text (Construct entries content ∷ others) = refl
+doc_here text _ = refl
 
 -- an item that takes no doc
 added : (before : Items) (i : LeafItem) → doc_taken i (doc_before before) ≡ None → with_item before i ≡ before ++ i ∷ []
 added before i e = ap (with_doc before i) e
 
 newline_added : (before : Items) → with_item before Newline ≡ before ++ Newline ∷ []
-newline_added before = added before Newline (go (doc_before before))
-  where
-    go : (o : Option (List ℕ)) → doc_taken Newline o ≡ None
-    go None = refl
-    go (Some doc) = refl
+newline_added before = added before Newline (takes_no_doc Newline (doc_before before) refl)
 
 comment_added : (before : Items) (text : List ℕ) → with_item before (Comment text) ≡ before ++ Comment text ∷ []
-comment_added before text = added before (Comment text) (go (doc_before before))
-  where
-    go : (o : Option (List ℕ)) → doc_taken (Comment text) o ≡ None
-    go None = refl
-    go (Some doc) = refl
+comment_added before text = added before (Comment text) (takes_no_doc (Comment text) (doc_before before) refl)
 
 next_last : (before others : Items) (i : LeafItem) → reverse before ≡ others → reverse (before ++ i ∷ []) ≡ i ∷ others
 next_last before others i e = reverse-append before (i ∷ []) ∙ ap (λ (l : Items). i ∷ l) e

@@ -1,2 +1,3 @@
 pub mod Docs
+pub mod ParsedItems
 pub mod ReadItems

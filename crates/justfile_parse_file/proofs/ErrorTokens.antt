@@ -1,6 +1,7 @@
 -- The tokens that a compile error holds: those of the broken rule, or of the word that was found.
-use Rattle.std.proofs.Common.{◌≡◌, ◌∙◌, ◌⊎◌, inl, inr, ℕ, List, [], ◌∷◌, All, Option, Some, None, refl, sym, subst}
+use Rattle.std.proofs.Common.{◌≡◌, ◌∙◌, ◌⊎◌, inl, inr, ℕ, List, [], ◌∷◌, All, None, refl, sym, subst}
 use Rattle.std.proofs.lemmas.List.Elements.{All-cons, All-nil}
+use Rattle.std.proofs.lemmas.Option.{none-some}
 use Rattle.justfile_attribute_rules.specs.RuleErrors.{IsKindOfRule}
 use Rattle.justfile_token.specs.CompileErrorKind.{tokens_in}
 use Rattle.justfile_token.specs.declared.compile_error_kind.CompileErrorKind.{CompileErrorKind}
@@ -11,7 +12,6 @@ use Rattle.justfile_token.specs.declared.token.Token.{Token}
 use Rattle.justfile_literal.specs.Literal.{IsKindOf, literal_fault_of}
 use Rattle.justfile_model.specs.Lexing.LexicalFault.{NotLexical, lexical_fault_of}
 use Rattle.justfile_model.specs.LiteralTexts.Literals.{LiteralFault}
-use Rattle.justfile_model.specs.Meanings.Rules as rules
 use Rattle.justfile_model.specs.Meanings.Rules.{Rule}
 use Rattle.justfile_model.specs.Lexing.Tok.{Tok}
 use Rattle.justfile_model.proofs.Relations.AlikeRules as alike
@@ -40,60 +40,39 @@ apart (kinds.UnknownAliasTarget alias target) = inr (refl, refl)
 apart (kinds.UnknownDependency recipe unknown) = inr (refl, refl)
 apart _ = inl refl
 
-literal_none : (fault : LiteralFault) (kind : CompileErrorKind) → IsKindOf fault kind → tokens_in kind ≡ []
-literal_none fault kind h = go (apart kind)
-  where
-    go : (tokens_in kind ≡ []) ⊎ ((literal_fault_of kind ≡ None) × (lexical_fault_of kind ≡ NotLexical)) → tokens_in kind ≡ []
-    go (inl none) = none
-    go (inr other) = absurd (never (sym other.0 ∙ h))
-      where
-        never : ◌≡◌ {A = Option LiteralFault} None (Some fault) → ⊥
-        never e = cc
-
-unexpected_none : (kind : CompileErrorKind) (token : Token) → IsUnexpected kind token → tokens_in kind ≡ []
-unexpected_none (kinds.UnexpectedToken expected found) token h = refl
-unexpected_none _ token h = absurd h
-
-extraneous_none : (count : ℕ) (kind : CompileErrorKind) → IsExtraneous count kind → tokens_in kind ≡ []
-extraneous_none count (kinds.ExtraneousAttributes count') h = refl
-extraneous_none count _ h = absurd h
-
-variadic_none : (name : Token) (kind : CompileErrorKind) → IsAfterVariadic name kind → tokens_in kind ≡ []
-variadic_none name (kinds.ParameterFollowsVariadicParameter parameter) h = refl
-variadic_none name _ h = absurd h
-
-unknown_none : (name : Token) (kind : CompileErrorKind) → IsUnknownSetting name kind → tokens_in kind ≡ []
-unknown_none name (kinds.UnknownSetting setting) h = refl
-unknown_none name _ h = absurd h
-
 module _ (IsToken : Token → Type 0) where
-  none : (kind : CompileErrorKind) → tokens_in kind ≡ [] → All IsToken (tokens_in kind)
-  none kind e = subst (All IsToken) (sym e) (All-nil IsToken)
-
   one : (token : Token) → IsToken token → All IsToken (token ∷ [])
   one token h = All-cons IsToken token [] h (All-nil IsToken)
 
-  pub literal_held : (fault : LiteralFault) (kind : CompileErrorKind) → IsKindOf fault kind → All IsToken (tokens_in kind)
-  literal_held fault kind h = none kind (literal_none fault kind h)
-
-  pub lexical_held : (kind : CompileErrorKind) → (lexical_fault_of kind ≡ NotLexical → ⊥) → All IsToken (tokens_in kind)
-  lexical_held kind lexical = go (apart kind)
+  -- a kind that is a fault of a literal, or of lexing
+  fault_held : (kind : CompileErrorKind) → ((literal_fault_of kind ≡ None) × (lexical_fault_of kind ≡ NotLexical) → ⊥) → All IsToken (tokens_in kind)
+  fault_held kind never = go (apart kind)
     where
       go : (tokens_in kind ≡ []) ⊎ ((literal_fault_of kind ≡ None) × (lexical_fault_of kind ≡ NotLexical)) → All IsToken (tokens_in kind)
-      go (inl e) = none kind e
-      go (inr other) = absurd (lexical other.1)
+      go (inl e) = subst (All IsToken) (sym e) (All-nil IsToken)
+      go (inr other) = absurd (never other)
+
+  pub literal_held : (fault : LiteralFault) (kind : CompileErrorKind) → IsKindOf fault kind → All IsToken (tokens_in kind)
+  literal_held fault kind h = fault_held kind (λ other. none-some fault (sym other.0 ∙ h))
+
+  pub lexical_held : (kind : CompileErrorKind) → (lexical_fault_of kind ≡ NotLexical → ⊥) → All IsToken (tokens_in kind)
+  lexical_held kind lexical = fault_held kind (λ other. lexical other.1)
 
   pub unexpected_held : (kind : CompileErrorKind) (token : Token) → IsUnexpected kind token → All IsToken (tokens_in kind)
-  unexpected_held kind token h = none kind (unexpected_none kind token h)
+  unexpected_held (kinds.UnexpectedToken expected found) token h = All-nil IsToken
+  unexpected_held _ token h = absurd h
 
   pub extraneous_held : (count : ℕ) (kind : CompileErrorKind) → IsExtraneous count kind → All IsToken (tokens_in kind)
-  extraneous_held count kind h = none kind (extraneous_none count kind h)
+  extraneous_held count (kinds.ExtraneousAttributes count') h = All-nil IsToken
+  extraneous_held count _ h = absurd h
 
   pub variadic_held : (name : Token) (kind : CompileErrorKind) → IsAfterVariadic name kind → All IsToken (tokens_in kind)
-  variadic_held name kind h = none kind (variadic_none name kind h)
+  variadic_held name (kinds.ParameterFollowsVariadicParameter parameter) h = All-nil IsToken
+  variadic_held name _ h = absurd h
 
   pub unknown_held : (name : Token) (kind : CompileErrorKind) → IsUnknownSetting name kind → All IsToken (tokens_in kind)
-  unknown_held name kind h = none kind (unknown_none name kind h)
+  unknown_held name (kinds.UnknownSetting setting) h = All-nil IsToken
+  unknown_held name _ h = absurd h
 
   pub keyword_held : (expected : List Keyword) (found : Token) (kind : CompileErrorKind) → IsExpectedKeyword expected found kind → IsToken found
       → All IsToken (tokens_in kind)

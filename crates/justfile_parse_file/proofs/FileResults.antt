@@ -19,7 +19,7 @@ use Rattle.justfile_model.specs.Grammars.Expressions.{front}
 use Rattle.justfile_model.specs.Grammars.Features.{Noted}
 use Rattle.justfile_recipe_header.specs.Header.{parameter_of}
 use Rattle.justfile_model.specs.Grammars.Docs.{Nothing, documented}
-use Rattle.justfile_model.specs.Grammars.Files.{NumbersSuffice, bindings, recipes, sets_doc}
+use Rattle.justfile_model.specs.Grammars.Files.{NumbersSuffice, bindings, item_bindings, item_recipes, recipes, sets_doc}
 use Rattle.justfile_model.specs.Readers.Reader as files
 use Rattle.justfile_model.specs.Readers.ReaderState as reading
 use Rattle.justfile_model.specs.Readers.ReaderState.{Counters, NoNumber}
@@ -35,29 +35,27 @@ use Rattle.justfile_model.proofs.Printed.DocsKept.{bindings_count, documented_co
 use Rattle.justfile_model.proofs.Relations.Natural as natural
 use Rattle.justfile_model.proofs.Readers.ReadingSteps.{known}
 use Rattle.justfile_model.proofs.Relations.Related as a
-use Rattle.justfile_model.proofs.Relations.Related.{AlikeItems, AlikeNext, Each, ReadErrors, Related, States}
+use Rattle.justfile_model.proofs.Relations.Related.{AlikeNext, Each, ReadErrors, Related, States}
 use Rattle.justfile_model.proofs.Readers.Renumbered.{file_by, whole}
 use Rattle.justfile_token.specs.declared.compile_error_kind.CompileErrorKind.{CompileErrorKind}
 use Rattle.justfile_parse_file.specs.Errors.{IsAt, IsErrorOf}
-use Rattle.justfile_parse_base.specs.ParseErrors.{IsAfterVariadic, IsExpectedKeyword, IsExtraneous, IsUnknownSetting}
-use Rattle.justfile_parse_base.specs.ParseErrors.{IsParseError, IsErrorOfRead}
+use Rattle.justfile_parse_base.specs.ParseErrors.{IsAfterVariadic, IsErrorOfRead, IsExpectedKeyword, IsExtraneous, IsParseError, IsUnknownSetting}
 use Rattle.justfile_parse_file.specs.ErrorFaults.{IsFaultOfError}
-use Rattle.justfile_parse_item.specs.DerivedFields.{HaveDerivedFields}
+use Rattle.justfile_parse_docs.specs.ParsedItems.{HaveDerivedFields}
 use Rattle.justfile_parse_base.specs.declared.parse_error.ParseError.{ParseError}
 use Rattle.justfile_parse_base.specs.declared.parse_error.ParseError.TheVariants as errors
-use Rattle.justfile_parse_item.specs.Filled.{IsInTable}
+use Rattle.justfile_parse_docs.specs.ParsedItems.{IsInTable}
 use Rattle.justfile_parse_expression.specs.TableReader as table_reader
-use Rattle.justfile_parse_item.specs.ItemTable as reader
-use Rattle.justfile_parse_item.specs.ItemTable.{ReadItems, attribute_leaves}
+use Rattle.justfile_parse_docs.specs.ParsedItems as reader
+use Rattle.justfile_parse_docs.specs.ParsedItems.{ReadItems, attribute_leaves}
 use Rattle.justfile_parse_expression.specs.TableReader.{Run, State, leaves}
 use Rattle.justfile_parse_file.specs.MethodResults.{IsFaultOfExpression, IsKindAt, IsNextPlace, IsRead, IsUnread, NeverEnough}
 use Rattle.justfile_parse_expression.specs.MethodResults.{IsExpressionError, literal_read_error, read_error_at}
-use Rattle.justfile_parse_expression.specs.Significant.{significant_of}
-use Rattle.justfile_parse_item.specs.Tree.{item_tree, numbered_leaf}
+use Rattle.justfile_parse_docs.specs.ParsedItems.{item_tree, numbered_leaf}
 use Rattle.justfile_expression.specs.LeafTree.{Leaf}
 use Rattle.justfile_parse_file.specs.WantsNumber as wants
 use Rattle.justfile_parse_file.specs.WantsNumber.{AreLines, BeginsAssignment, BeginsHeader, LacksNumber, WantsNumber, a_line, at_name, at_once, binding, name_number, no_line, parameter_number, quiet, recipe_number}
-use Rattle.justfile_parse_expression.specs.Significant.{TableToken}
+use Rattle.justfile_parse_expression.specs.Significant.{TableToken, significant_of}
 use Rattle.justfile_parse_expression.specs.declared.expression_error.LiteralError.{LiteralError}
 use Rattle.justfile_parse_expression.specs.declared.expression_error.SyntaxError.{SyntaxError}
 use Rattle.justfile_parse_expression.specs.declared.expression_error.SyntaxError.TheVariants.{Unexpected, TooDeep}
@@ -67,8 +65,8 @@ use Rattle.justfile_parse_expression.proofs.Cooked.{kind_is_due}
 use Rattle.justfile_parse_file.proofs.ErrorTokens.{extraneous_held, keyword_held, literal_held, rule_held, unexpected_held, unknown_held, variadic_held}
 use Rattle.justfile_parse_file.proofs.Tables.{in_table}
 use Rattle.justfile_parse_expression.proofs.Seen.{IsTableToken, Relates}
-use Rattle.justfile_parse_item.proofs.Seen.{respects, seen}
-use Rattle.justfile_parse_item.proofs.SeenAttributes.{IsKept, attributed}
+use Rattle.justfile_parse_docs.proofs.ParsedItems.{respects, seen}
+use Rattle.justfile_parse_docs.proofs.ParsedItems.{IsKept, attributed}
 use Rattle.justfile_parse_file.proofs.SeenDocs.{items_seen}
 use Rattle.justfile_parse_file.proofs.SeenItems.{noted_seen}
 use Rattle.justfile_model.proofs.Relations.OverRules.{same_broken}
@@ -79,31 +77,16 @@ use Rattle.justfile_parse_header.specs.Tree.{parameter_tree}
 -- a tree holds as many bindings and recipes whatever stands at its leaves
 same_bindings : (is : List Item) → bindings (map item_tree is) ≡ bindings (map item_of is)
 same_bindings [] = refl
-same_bindings (items.Alias b ∷ is) = ap (λ (n : ℕ). 0 + n) (same_bindings is)
-same_bindings (items.Assignment b ∷ is) = ap (λ (n : ℕ). 1 + n) (same_bindings is)
-same_bindings (items.Comment text ∷ is) = ap (λ (n : ℕ). 0 + n) (same_bindings is)
 same_bindings (items.Function f ∷ is) =
     λ i. (length-map f.parameters.items numbered_leaf ∙ sym (length-map f.parameters.items function_parameter_of)) i + same_bindings is i
-same_bindings (items.Import set optional relative ∷ is) = ap (λ (n : ℕ). 0 + n) (same_bindings is)
-same_bindings (items.Module set doc name optional relative ∷ is) = ap (λ (n : ℕ). 0 + n) (same_bindings is)
-same_bindings (items.Newline ∷ is) = ap (λ (n : ℕ). 0 + n) (same_bindings is)
 same_bindings (items.Recipe r ∷ is) =
     λ i. (length-map r.parameters.items parameter_tree ∙ sym (length-map r.parameters.items parameter_of)) i + same_bindings is i
-same_bindings (items.Setting s ∷ is) = ap (λ (n : ℕ). 0 + n) (same_bindings is)
-same_bindings (items.Unexport set name ∷ is) = ap (λ (n : ℕ). 0 + n) (same_bindings is)
+same_bindings (i ∷ is) = ap (λ (n : ℕ). item_bindings (item_of i) + n) (same_bindings is)
 
 same_recipes : (is : List Item) → recipes (map item_tree is) ≡ recipes (map item_of is)
 same_recipes [] = refl
 same_recipes (items.Alias b ∷ is) = ap (λ (n : ℕ). 0 + n) (same_recipes is)
-same_recipes (items.Assignment b ∷ is) = ap (λ (n : ℕ). 0 + n) (same_recipes is)
-same_recipes (items.Comment text ∷ is) = ap (λ (n : ℕ). 0 + n) (same_recipes is)
-same_recipes (items.Function f ∷ is) = ap (λ (n : ℕ). 0 + n) (same_recipes is)
-same_recipes (items.Import set optional relative ∷ is) = ap (λ (n : ℕ). 0 + n) (same_recipes is)
-same_recipes (items.Module set doc name optional relative ∷ is) = ap (λ (n : ℕ). 0 + n) (same_recipes is)
-same_recipes (items.Newline ∷ is) = ap (λ (n : ℕ). 0 + n) (same_recipes is)
-same_recipes (items.Recipe r ∷ is) = ap (λ (n : ℕ). 1 + n) (same_recipes is)
-same_recipes (items.Setting s ∷ is) = ap (λ (n : ℕ). 0 + n) (same_recipes is)
-same_recipes (items.Unexport set name ∷ is) = ap (λ (n : ℕ). 0 + n) (same_recipes is)
+same_recipes (i ∷ is) = ap (λ (n : ℕ). item_recipes (item_of i) + n) (same_recipes is)
 
 -- The definitions read beside it under the same conditions, but for their limit of depth, `bound`, which may be greater.
 module _ (run : Run) (bound : ℕ) (within : run.conditions.limit ≤ bound) where
@@ -163,23 +146,11 @@ module _ (run : Run) (bound : ℕ) (within : run.conditions.limit ≤ bound) whe
     -- both read
     got : (found : ReadItems) (found' : Found) → Related rel Q Short found found' → (x : Pair) → found ≡ Ok x → (y : (WrittenTree × Counters) × model.State) × (found' ≡ Ok y) × Q x.0 y.0 × States rel x.1 y.1
     got found found' (a.both {x = z} {y = y} q k) x is =
-        let same : z ≡ x = inside z x is in
+        let same : z ≡ x = cc in
         (y, refl, subst (λ (w : Pair). Q w.0 y.0) same q, subst (λ (w : Pair). States rel w.1 y.1) same k)
-      where
-        inside : (z x : Pair) → ◌≡◌ {A = ReadItems} (Ok z) (Ok x) → z ≡ x
-        inside z x e = cc
-    got found found' (a.neither {e = e} h) x is = absurd (never e x is)
-      where
-        never : (e : table_reader.ReadError) (x : Pair) → ◌≡◌ {A = ReadItems} (Err e) (Ok x) → ⊥
-        never e x is = cc
-    got found found' (a.short {n = m} h) x is = absurd (never (NoNumber m) x is)
-      where
-        never : (e : table_reader.ReadError) (x : Pair) → ◌≡◌ {A = ReadItems} (Err e) (Ok x) → ⊥
-        never e x is = cc
-    got found found' (a.deep {o = at} loose) x is = absurd (never (reading.TooDeep at) x is)
-      where
-        never : (e : table_reader.ReadError) (x : Pair) → ◌≡◌ {A = ReadItems} (Err e) (Ok x) → ⊥
-        never e x is = cc
+    got found found' (a.neither h) x is = absurd cc
+    got found found' (a.short h) x is = absurd cc
+    got found found' (a.deep loose) x is = absurd cc
 
     -- Both are refused; or the one has no number left; or an expression is too deep in the one, and the other's limit is greater.
     pub data Lost (e : table_reader.ReadError) (found' : Found) : Type 0 where
@@ -188,22 +159,12 @@ module _ (run : Run) (bound : ℕ) (within : run.conditions.limit ≤ bound) whe
       deeper : (at : Option TableToken) → e ≡ reading.TooDeep at → conditions.limit < bound → Lost e found'
 
     lost : (found : ReadItems) (found' : Found) → Related rel Q Short found found' → (e : table_reader.ReadError) → found ≡ Err e → Lost e found'
-    lost found found' (a.both {x = z} q k) e is = absurd (never z e is)
-      where
-        never : (z : Pair) (e : table_reader.ReadError) → ◌≡◌ {A = ReadItems} (Ok z) (Err e) → ⊥
-        never z e is = cc
-    lost found found' (a.neither {e = f} {e' = f'} h) e is = subst (λ (g : table_reader.ReadError). Lost g (Err f')) (inside f e is) (refused f' refl h)
-      where
-        inside : (f e : table_reader.ReadError) → ◌≡◌ {A = ReadItems} (Err f) (Err e) → f ≡ e
-        inside f e is = cc
-    lost found found' (a.short {n = m} h) e is = wanting m (inside e is) h
-      where
-        inside : (e : table_reader.ReadError) → ◌≡◌ {A = ReadItems} (Err (NoNumber m)) (Err e) → e ≡ NoNumber m
-        inside e is = cc
-    lost found found' (a.deep {o = at} loose) e is = deeper at (inside e is) loose
-      where
-        inside : (e : table_reader.ReadError) → ◌≡◌ {A = ReadItems} (Err (reading.TooDeep at)) (Err e) → e ≡ reading.TooDeep at
-        inside e is = cc
+    lost found found' (a.both q k) e is = absurd cc
+    lost found found' (a.neither {e = f} {e' = f'} h) e is =
+        let same : f ≡ e = cc in
+        subst (λ (g : table_reader.ReadError). Lost g (Err f')) same (refused f' refl h)
+    lost found found' (a.short {n = m} h) e is = wanting m (cc) h
+    lost found found' (a.deep {o = at} loose) e is = deeper at (cc) loose
 
     pub file_lost : (e : table_reader.ReadError) → reader.file n begin ≡ Err e → Lost e there
     file_lost e is = lost (reader.file n begin) there related e is
@@ -231,11 +192,11 @@ module _ (run : Run) (bound : ℕ) (within : run.conditions.limit ≤ bound) whe
       record {
         written = g.0.0.0;
         read = sym (file_by n others tokens) ∙ ap (λ (r : Found n). whole r) g.1 ∙ (λ i. Ok (g.0.0.0, f.0 i));
-        ordered_is = x.same;
+        ordered_is = x.0;
         given = record {
-          given = x.given whole_items;
-          numbered = x.numbered;
-          recipes_numbered = x.recipes_numbered;
+          given = x.1.given whole_items;
+          numbered = x.1.numbered;
+          recipes_numbered = x.1.recipes_numbered;
           counted = ap (λ (c : Counters). c.bindings) counts ∙ counted_bindings n (map item_tree is) ∙ ap (λ (k : ℕ). bindings_of old + k) (docs_bindings is docs documents);
           recipes_counted = ap (λ (c : Counters). c.recipes) counts ∙ counted_recipes n (map item_tree is) ∙ ap (λ (k : ℕ). recipes_of old + k) (docs_recipes is docs documents);
         };
@@ -285,10 +246,7 @@ module _ (run : Run) (bound : ℕ) (within : run.conditions.limit ≤ bound) whe
       ((subst (λ (t : Token). IsUnknownSetting t error.kind) (sym says.1) says.0, ap tok_of says.1 ∙ h.is), subst (IsInTable table) (sym says.1) h.among, unknown_held (IsInTable table) name error.kind says.0)
   broken_at error (reading.ExpectedKeyword expected found) e' says (a.expected_keyword h) =
       ((subst (λ (t : Token). IsExpectedKeyword expected t error.kind) (sym says.1) says.0, ap tok_of says.1 ∙ h.is), subst (IsInTable table) (sym says.1) h.among, keyword_held (IsInTable table) expected found error.kind says.0 h.among)
-  broken_at error (reading.Unexpected at) e' says h = absurd says
-  broken_at error (reading.TooDeep at) e' says h = absurd says
-  broken_at error (reading.NotCooked fault at) e' says h = absurd says
-  broken_at error (reading.NoNumber counters) e' says h = absurd says
+  broken_at error _ e' says h = absurd says
 
   no_number : (r : SyntaxError) (s : State) (m : Counters) → read_error_at r s ≡ NoNumber m → ⊥
   unfolding reading.refused
@@ -423,19 +381,12 @@ module _ (run : Run) (bound : ℕ) (within : run.conditions.limit ≤ bound) whe
         let over = known x.0 (λ (y : (WrittenTree × Counters) × model.State). natural.Exceeds rel leaves token_leaves agree attribute_leaves token_attributes Keeps keeps (counters_of new) y.0.1) x.1 exceeds in
         exceeded x.0 t x.2 counts over enough
 
-    same_counters : (m : Counters) → ◌≡◌ {A = table_reader.ReadError} (NoNumber (counters_of new)) (NoNumber m) → m ≡ counters_of new
-    same_counters m e = cc
-
-    no_refusal : (e' : model.ReadError) → ReadErrors rel (NoNumber (counters_of new)) e' → ⊥
-    no_refusal e' h = elim h [ ]
-
-    too_deep : (at : Option TableToken) → ◌≡◌ {A = table_reader.ReadError} (NoNumber (counters_of new)) (reading.TooDeep at) → ⊥
-    too_deep at e = cc
-
     wanting_of : Lost (counters_of old) (NoNumber (counters_of new)) (there (counters_of old)) → Short (counters_of old) (counters_of new) (there (counters_of old))
-    wanting_of (refused e' is h) = absurd (no_refusal e' h)
-    wanting_of (wanting m is short) = subst (λ (c : Counters). Short (counters_of old) c (there (counters_of old))) (same_counters m is) short
-    wanting_of (deeper at is loose) = absurd (too_deep at is)
+    wanting_of (refused e' is h) = elim h [ ]
+    wanting_of (wanting m is short) =
+        let same : m ≡ counters_of new = cc in
+        subst (λ (c : Counters). Short (counters_of old) c (there (counters_of old))) same short
+    wanting_of (deeper at is loose) = absurd cc
 
     -- where numbers run out, they suffice for no tree
     pub never_enough : reader.file (counters_of old) begin ≡ Err (NoNumber (counters_of new)) → (t : WrittenTree) (fs : List (Noted Tok)) → model.tree_of_tokens others tokens ≡ Ok (t, fs)
@@ -445,35 +396,29 @@ module _ (run : Run) (bound : ℕ) (within : run.conditions.limit ≤ bound) whe
     -- ---- where the limit is the same
 
     module _ (exact : conditions.limit < bound → ⊥) (never : reader.file (counters_of old) begin ≡ Err (NoNumber (counters_of new)) → NeverEnough others tokens old) where
-      refused_of : (r : SyntaxError) (s : State) (e : CompileError) → Lost (counters_of old) (read_error_at r s) (there (counters_of old)) → IsKindAt r e.kind e.token → IsNextPlace table (front s.left) e.token → IsUnread others tokens (IsInTable table) old new (faults.Compile e)
-      refused_of r s e (refused e' is h) kind at =
-          let x = error_at r s e e' h kind at in
+      -- refused for this error
+      unread_by : (e : CompileError) (e' : model.ReadError) → there (counters_of old) ≡ Err e' → IsErrorOf tokens e' e × IsInTable table e.token × Holds e → IsUnread others tokens (IsInTable table) old new (faults.Compile e)
+      unread_by e e' is x =
           record { refusal = e'; read = sym (file_by (counters_of old) others tokens) ∙ ap (λ (r : Found (counters_of old)). whole r) is; error = x.0; among = x.1; held = x.2 }
+
+      refused_of : (r : SyntaxError) (s : State) (e : CompileError) → Lost (counters_of old) (read_error_at r s) (there (counters_of old)) → IsKindAt r e.kind e.token → IsNextPlace table (front s.left) e.token → IsUnread others tokens (IsInTable table) old new (faults.Compile e)
+      refused_of r s e (refused e' is h) kind at = unread_by e e' is (error_at r s e e' h kind at)
       refused_of r s e (wanting m is short) kind at = absurd (no_number r s m is)
       refused_of r s e (deeper o is loose) kind at = absurd (exact loose)
 
       literal_of : (l : LiteralError) (e : CompileError) → Lost (counters_of old) (literal_read_error l.error) (there (counters_of old)) → e ≡ l.error → IsUnread others tokens (IsInTable table) old new (faults.Compile e)
       literal_of l e (refused e' is h) same =
-          let x = literal_at l e' h in
-          subst (λ (k : CompileError). IsUnread others tokens (IsInTable table) old new (faults.Compile k)) (sym same)
-          (record { refusal = e'; read = sym (file_by (counters_of old) others tokens) ∙ ap (λ (r : Found (counters_of old)). whole r) is; error = x.0; among = x.1; held = x.2 })
+          subst (λ (k : CompileError). IsUnread others tokens (IsInTable table) old new (faults.Compile k)) (sym same) (unread_by l.error e' is (literal_at l e' h))
       literal_of l e (wanting m is short) same = absurd (no_literal l m is)
       literal_of l e (deeper o is loose) same = absurd (exact loose)
 
       unread_stop : (s : State) (stop : ExpressionError) (fault : Fault) → IsExpressionError stop s (reader.file (counters_of old) begin ≡ Err (NoNumber (counters_of new))) (reader.file (counters_of old) begin) → IsFaultOfExpression table (front s.left) stop fault
           → IsUnread others tokens (IsInTable table) old new fault
       unread_stop s (causes.Refused r) (faults.Compile e) h is = refused_of r s e (file_lost (counters_of old) (read_error_at r s) h) is.0 is.1
-      unread_stop s (causes.Refused r) faults.Memory h is = tt
-      unread_stop s (causes.Refused r) faults.Numbers h is = absurd is
       unread_stop s (causes.Literal box) (faults.Compile e) h is = literal_of box.value e (file_lost (counters_of old) (literal_read_error box.value.error) h) is
-      unread_stop s (causes.Literal box) faults.Memory h is = absurd is
-      unread_stop s (causes.Literal box) faults.Numbers h is = absurd is
-      unread_stop s causes.Memory (faults.Compile e) h is = absurd is
-      unread_stop s causes.Memory faults.Memory h is = tt
-      unread_stop s causes.Memory faults.Numbers h is = absurd is
-      unread_stop s causes.Numbers (faults.Compile e) h is = absurd is
-      unread_stop s causes.Numbers faults.Memory h is = absurd is
       unread_stop s causes.Numbers faults.Numbers h is = (wants_of (wanting_of (file_lost (counters_of old) (NoNumber (counters_of new)) h)).0, never h)
+      unread_stop s stop faults.Memory h is = tt
+      unread_stop s stop fault h is = absurd is
 
       -- nothing is read where the error says that a rule is broken
       broken_found : (error : CompileError) (found : ReadItems) → found ≡ reader.file (counters_of old) begin → IsErrorOfRead found error
@@ -482,9 +427,7 @@ module _ (run : Run) (bound : ℕ) (within : run.conditions.limit ≤ bound) whe
       broken_found error (Err r) is says = go (file_lost (counters_of old) r (sym is))
         where
           go : Lost (counters_of old) r (there (counters_of old)) → IsUnread others tokens (IsInTable table) old new (faults.Compile error)
-          go (refused e' there_is h) =
-              let x = broken_at error r e' says h in
-              record { refusal = e'; read = sym (file_by (counters_of old) others tokens) ∙ ap (λ (r : Found (counters_of old)). whole r) there_is; error = x.0; among = x.1; held = x.2 }
+          go (refused e' there_is h) = unread_by error e' there_is (broken_at error r e' says h)
           go (wanting m e short) = absurd (subst (λ (k : table_reader.ReadError). IsErrorOfRead {Y = Pair} (Err k) error) e says)
           go (deeper o e loose) = absurd (exact loose)
 

@@ -15,8 +15,7 @@ use Rattle.justfile_model.specs.Lexing.Tok.{Tok, tok_of}
 use Rattle.justfile_model.specs.Trees.Tree.{Parts, itself}
 use Rattle.justfile_parse_expression.specs.FormatStrings.{AreEnded, IsEnded, IsEndedPastExpression, last_of}
 use Rattle.justfile_parse_file.specs.Parsing.{IsOneLex}
-use Rattle.justfile_parse_expression.specs.Significant.{significant_of}
-use Rattle.justfile_parse_expression.specs.Significant.{TableToken}
+use Rattle.justfile_parse_expression.specs.Significant.{TableToken, significant_of}
 use Rattle.justfile_parse_file.proofs.Parsed.{framed_test}
 
 parts_ended : {k : StringKind} {d : ℕ} {ps : Parts Tok Tok} {fs : List (Noted Tok)} {ts rest : Tokens} → grammar.FormatParts itself itself AnyDepth d ps fs ts rest → InFormat k ts → IsTrue (is_part k string_parts.End (last_of ps).lexeme)

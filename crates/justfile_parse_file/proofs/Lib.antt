@@ -1,14 +1,10 @@
-pub mod Comments
 pub mod FormatStrings
-pub mod FilledAttributes
-pub mod FilledParts
+pub mod Filled
 pub mod ErrorTokens
 pub mod NotInternal
 pub mod Parsed
 pub mod SeenDocs
-pub mod SeenHeaders
 pub mod SeenItems
-pub mod SeenParts
 pub mod Tables
 pub mod UsedFeatures
 pub mod Wanting

@@ -3,6 +3,7 @@ use Rattle.std.proofs.Common.{◌≡◌, ℕ, zero, suc, Bool, true, false, cond
 use Rattle.std.specs.Prelude.{◌&&◌, not, nat_eq}
 use Rattle.std.specs.List.{starts_with}
 use Rattle.std.specs.Str.{bytes_eq}
+use Rattle.std.proofs.lemmas.Option.{none-some}
 use Rattle.justfile_token.specs.StringKind.{delimiter_len, kind_of, token_kind_of}
 use Rattle.justfile_vocabulary.specs.declared.token_kind.TokenKind.TheVariants.{FormatStringStart}
 use Rattle.justfile_model.specs.Lexing.Bytes.{is_interpolation_start, is_interpolation_end, is_mixed, closes_levels, first_char}
@@ -13,7 +14,6 @@ use Rattle.justfile_token.specs.declared.compile_error.CompileError.{CompileErro
 use Rattle.justfile_token.specs.declared.compile_error_kind.CompileErrorKind.{CompileErrorKind}
 use Rattle.justfile_token.specs.declared.compile_error_kind.CompileErrorKind.TheVariants.{Internal}
 use Rattle.justfile_token.specs.declared.delimiter.Delimiter.{Delimiter}
-use Rattle.justfile_vocabulary.specs.declared.keyword.Keyword.{Keyword}
 use Rattle.justfile_token.specs.declared.string_kind.StringDelimiter.{StringDelimiter}
 use Rattle.justfile_token.specs.declared.string_kind.StringDelimiter.TheVariants as delimiters
 use Rattle.justfile_token.specs.declared.string_kind.StringKind.{StringKind}
@@ -22,7 +22,6 @@ use Rattle.justfile_vocabulary.specs.declared.token_kind.TokenKind.{TokenKind}
 use Rattle.justfile_literal.specs.Literal.{IsKindOf}
 use Rattle.justfile_vocabulary.specs.ByteClass.{class_of}
 use Rattle.justfile_model.specs.Lexing.Lexed.{IsFault, IsSpan}
-use Rattle.justfile_model.specs.LiteralTexts.Literals as literals
 use Rattle.justfile_model.specs.Readers.ReaderState as reader
 use Rattle.justfile_model.specs.Readers.TreeReader as model
 use Rattle.justfile_model.specs.Lexing.SignificantTokens.{SignificantToken}
@@ -187,54 +186,27 @@ not_lexical text fault t other h = never (ap is_lexical (sym other) ∙ fault_le
     never : false ≡ true → ⊥
     never e = cc
 
-by_kind : (kind : CompileErrorKind) → is_lexical (lexical_fault_of kind) ≡ true → internal_message kind ≡ None
-by_kind (Internal message) h = cc
-by_kind _ h = refl
+-- a kind of which something is said that isn't said of an internal error
+never_internal : (Says : CompileErrorKind → Type 0) → ((message : _) → Says (Internal message) → ⊥) → (kind : CompileErrorKind) → Says kind → internal_message kind ≡ None
+never_internal Says never (Internal message) h = absurd (never message h)
+never_internal Says never _ h = refl
 
 pub not_internal : (text : List ℕ) (kind : CompileErrorKind) (t : Tok) → IsFault text (lexical_fault_of kind) t → internal_message kind ≡ None
-not_internal text kind t h = by_kind kind (fault_lexical text (lexical_fault_of kind) t h)
+not_internal text kind t h = never_internal (λ k. IsFault text (lexical_fault_of k) t) (λ message k. not_lexical text NotLexical t refl k) kind h
 
 -- ---- parsing
-
-unexpected_kind : (kind : CompileErrorKind) (token : Token) → IsUnexpected kind token → internal_message kind ≡ None
-unexpected_kind (Internal message) token h = absurd h
-unexpected_kind _ token h = refl
-
-literal_kind : (fault : literals.LiteralFault) (kind : CompileErrorKind) → IsKindOf fault kind → internal_message kind ≡ None
-literal_kind fault (Internal message) h = cc
-literal_kind fault _ h = refl
 
 says_internal : (at : Token) (rule : Rule Token) (message : _) → IsKindOfRule at rule (Internal message) → ⊥
 says_internal at (rules.UnknownAttribute name) message h = h
 says_internal at _ message h = h
 
-rule_kind : (at : Token) (rule : Rule Token) (kind : CompileErrorKind) → IsKindOfRule at rule kind → internal_message kind ≡ None
-rule_kind at rule (Internal message) h = absurd (says_internal at rule message h)
-rule_kind at rule _ h = refl
-
-extraneous_kind : (count : ℕ) (kind : CompileErrorKind) → IsExtraneous count kind → internal_message kind ≡ None
-extraneous_kind count (Internal message) h = absurd h
-extraneous_kind count _ h = refl
-
-variadic_kind : (name : Token) (kind : CompileErrorKind) → IsAfterVariadic name kind → internal_message kind ≡ None
-variadic_kind name (Internal message) h = absurd h
-variadic_kind name _ h = refl
-
-unknown_kind : (name : Token) (kind : CompileErrorKind) → IsUnknownSetting name kind → internal_message kind ≡ None
-unknown_kind name (Internal message) h = absurd h
-unknown_kind name _ h = refl
-
-expected_kind : (expected : List Keyword) (found : Token) (kind : CompileErrorKind) → IsExpectedKeyword expected found kind → internal_message kind ≡ None
-expected_kind expected found (Internal message) h = absurd h
-expected_kind expected found _ h = refl
-
 pub refusal_not_internal : (tokens : List SignificantToken) (r : model.ReadError) (e : CompileError) → IsErrorOf tokens r e → internal_message e.kind ≡ None
-refusal_not_internal tokens (reader.Unexpected at) e h = unexpected_kind e.kind e.token h.0
+refusal_not_internal tokens (reader.Unexpected at) e h = never_internal (λ kind. IsUnexpected kind e.token) (λ message k. k) e.kind h.0
 refusal_not_internal tokens (reader.TooDeep at) e h = ap internal_message h.0
-refusal_not_internal tokens (reader.NotCooked fault t) e h = literal_kind fault e.kind h.0
-refusal_not_internal tokens (reader.BreaksRule rule) e h = rule_kind h.rule.token h.rule.rule e.kind h.error.says
-refusal_not_internal tokens (reader.Extraneous count opener) e h = extraneous_kind count e.kind h.0
-refusal_not_internal tokens (reader.AfterVariadic name) e h = variadic_kind e.token e.kind h.0
-refusal_not_internal tokens (reader.UnknownSetting name) e h = unknown_kind e.token e.kind h.0
-refusal_not_internal tokens (reader.ExpectedKeyword expected found) e h = expected_kind expected e.token e.kind h.0
+refusal_not_internal tokens (reader.NotCooked fault t) e h = never_internal (IsKindOf fault) (λ message k. none-some fault k) e.kind h.0
+refusal_not_internal tokens (reader.BreaksRule rule) e h = never_internal (IsKindOfRule h.rule.token h.rule.rule) (says_internal h.rule.token h.rule.rule) e.kind h.error.says
+refusal_not_internal tokens (reader.Extraneous count opener) e h = never_internal (IsExtraneous count) (λ message k. k) e.kind h.0
+refusal_not_internal tokens (reader.AfterVariadic name) e h = never_internal (IsAfterVariadic e.token) (λ message k. k) e.kind h.0
+refusal_not_internal tokens (reader.UnknownSetting name) e h = never_internal (IsUnknownSetting e.token) (λ message k. k) e.kind h.0
+refusal_not_internal tokens (reader.ExpectedKeyword expected found) e h = never_internal (IsExpectedKeyword expected e.token) (λ message k. k) e.kind h.0
 refusal_not_internal tokens (reader.NoNumber counters) e h = absurd h

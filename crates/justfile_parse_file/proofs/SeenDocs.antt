@@ -25,12 +25,12 @@ use Rattle.justfile_model.proofs.Lists.Binds.{some_back}
 use Rattle.justfile_model.proofs.Readers.Counters.{count, count_content}
 use Rattle.justfile_model.proofs.Relations.Related as a
 use Rattle.justfile_model.proofs.Relations.Related.{AlikeItem, AlikeItems}
-use Rattle.justfile_parse_item.specs.Filled.{IsFilledItem}
-use Rattle.justfile_parse_item.specs.Tree.{item_tree}
-use Rattle.justfile_parse_item.specs.DerivedFields.{HasDerivedItemFields}
+use Rattle.justfile_parse_docs.specs.ParsedItems.{IsFilledItem}
+use Rattle.justfile_parse_docs.specs.ParsedItems.{item_tree}
+use Rattle.justfile_parse_docs.specs.ParsedItems.{HasDerivedItemFields}
 use Rattle.justfile_parse_expression.proofs.Seen.{Relates}
 use Rattle.justfile_expression.specs.LeafTree.{Leaf}
-use Rattle.justfile_parse_item.proofs.Seen as seeing
+use Rattle.justfile_parse_docs.proofs.ParsedItems as seeing
 use Rattle.justfile_parse_file.proofs.SeenItems.{SeenItem, item_seen, undoc}
 
 -- an attribute sets the doc, whatever the view of leaves
@@ -110,18 +110,6 @@ module _ (conditions : Conditions) (bound : ℕ) (IsToken : Token → Type 0) (f
 
   -- ---- docs are taken on both sides
 
-  -- a construct with this doc
-  documented_construct : (doc : Option (List ℕ)) (content : Content Leaf Token ℕ (Unit {0})) (other : Content Tok Tok ℕ (Unit {0})) {n : Counters} {entries : List (Entry Leaf Token)}
-      {others : List (Entry Tok Tok)} {t : WrittenItem Tok Tok ℕ Tok}
-      → sets_doc entries ≡ sets_doc others → takes_doc content ≡ takes_doc other
-      → AlikeItem seen n (tree.Construct entries (redocumented None content)) t → meant t ≡ Some (tree.Construct others (redocumented None other))
-      → Docs n (tree.Construct entries (redocumented doc content)) (tree.Construct others (redocumented doc other))
-  documented_construct doc content other {n} {entries} {others} {t} says takes h means =
-      construct says (still_takes doc content ∙ takes ∙ sym (still_takes doc other))
-      (doc_given doc content ∙ ap (λ (b : Bool). cond b doc None) takes ∙ sym (doc_given doc other))
-      (subst (λ (c : Content Leaf Token ℕ (Unit {0})). AlikeItem seen n (tree.Construct entries c) t) (sym (given_again None doc content)) h)
-      (means ∙ ap (λ (c : Content Tok Tok ℕ (Unit {0})). Some (tree.Construct others c)) (sym (given_again None doc other)))
-
   -- a construct with the doc of the comment before it, if it may have it
   construct_alike : (text doc : List ℕ) (content : Content Leaf Token ℕ (Unit {0})) (other : Content Tok Tok ℕ (Unit {0})) {n : Counters} {entries : List (Entry Leaf Token)}
       {others : List (Entry Tok Tok)} {t : WrittenItem Tok Tok ℕ Tok} {ls : List LeafItem} {us : Tree}
@@ -130,18 +118,22 @@ module _ (conditions : Conditions) (bound : ℕ) (IsToken : Token → Type 0) (f
       → AllDocs (count n (tree.Construct entries content)) ls us
       → AllDocs n (doc_or_comment sets_doc text (tree.Construct entries content) ls (cond b (Some (tree.Construct entries (redocumented (Some doc) content))) None))
       (doc_or_comment sets_doc text (tree.Construct others other) us (cond b' (Some (tree.Construct others (redocumented (Some doc) other))) None))
-  construct_alike text doc content other {n} {ls = ls} {us = us} true true same says takes docs h means hs =
-      more_docs (documented_construct (Some doc) content other says takes h means) (subst (λ (c : Counters). AllDocs c ls us) (sym (count_kept n (Some doc) content)) hs)
+  construct_alike text doc content other {n} {entries} {others} {t} {ls} {us} true true same says takes docs h means hs =
+      more_docs
+      (construct says (still_takes (Some doc) content ∙ takes ∙ sym (still_takes (Some doc) other))
+      (doc_given (Some doc) content ∙ ap (λ (b : Bool). cond b (Some doc) None) takes ∙ sym (doc_given (Some doc) other))
+      (subst (λ (c : Content Leaf Token ℕ (Unit {0})). AlikeItem seen n (tree.Construct entries c) t) (sym (given_again None (Some doc) content)) h)
+      (means ∙ ap (λ (c : Content Tok Tok ℕ (Unit {0})). Some (tree.Construct others c)) (sym (given_again None (Some doc) other))))
+      (subst (λ (c : Counters). AllDocs c ls us) (sym (count_kept n (Some doc) content)) hs)
   construct_alike text doc content other false false same says takes docs h means hs = more_docs comment (more_docs newline (more_docs (construct says takes docs h means) hs))
   construct_alike text doc content other true false same says takes docs h means hs = cc
   construct_alike text doc content other false true same says takes docs h means hs = cc
 
   item_alike : (text doc : List ℕ) {n : Counters} {l : LeafItem} {u : TreeItem} {ls : List LeafItem} {us : Tree} → Docs n l u → AllDocs (count n l) ls us
       → AllDocs n (comment_taken sets_doc text l ls (Some doc)) (comment_taken sets_doc text u us (Some doc))
-  item_alike text doc newline hs = more_docs comment (more_docs newline (more_docs newline hs))
-  item_alike text doc comment hs = more_docs comment (more_docs newline (more_docs comment hs))
   item_alike text doc (construct {content = content} {other = other} says takes docs h means) hs =
       construct_alike text doc content other _ _ (λ i. takes i && not (says i) && not (is_some (docs i))) says takes docs h means hs
+  item_alike text doc h hs = more_docs comment (more_docs newline (more_docs h hs))
 
   doc_alike : (text : List ℕ) (doc : Option (List ℕ)) {n : Counters} {l : LeafItem} {u : TreeItem} {ls : List LeafItem} {us : Tree} → Docs n l u → AllDocs (count n l) ls us
       → AllDocs n (comment_taken sets_doc text l ls doc) (comment_taken sets_doc text u us doc)
@@ -150,11 +142,8 @@ module _ (conditions : Conditions) (bound : ℕ) (IsToken : Token → Type 0) (f
 
   comment_alike : (before : Before) (text : List ℕ) {n : Counters} {ls : List LeafItem} {us : Tree} → AllDocs n ls us
       → AllDocs n (taken sets_doc before (tree.Comment text) ls) (taken sets_doc before (tree.Comment text) us)
-  comment_alike before text no_docs = more_docs comment no_docs
-  comment_alike before text (more_docs newline no_docs) = more_docs comment (more_docs newline no_docs)
   comment_alike before text (more_docs newline (more_docs h hs)) = doc_alike text (doc_in before text) h hs
-  comment_alike before text (more_docs comment hs) = more_docs comment (more_docs comment hs)
-  comment_alike before text (more_docs (construct says takes docs h means) hs) = more_docs comment (more_docs (construct says takes docs h means) hs)
+  comment_alike before text hs = more_docs comment hs
 
   documented_alike : (before : Before) {n : Counters} {ls : List LeafItem} {us : Tree} → AllDocs n ls us → AllDocs n (documented sets_doc before ls) (documented sets_doc before us)
   documented_alike before no_docs = no_docs
@@ -167,47 +156,17 @@ module _ (conditions : Conditions) (bound : ℕ) (IsToken : Token → Type 0) (f
   -- what is read has no doc
   bare_is : {n : Counters} {l : LeafItem} {t : WrittenItem Tok Tok ℕ Tok} → AlikeItem seen n l t → undoc l ≡ l
   bare_is a.newline = refl
-  bare_is a.comment = refl
-  bare_is (a.alias d h hs) = refl
-  bare_is (a.assignment d h e) = refl
-  bare_is (a.function d h hs e) = refl
-  bare_is (a.import d q) = refl
-  bare_is (a.module_of d h o) = refl
-  bare_is (a.setting d h v) = refl
-  bare_is (a.unexport d h) = refl
-  bare_is (a.recipe d h commented ls) = refl
+  bare_is _ = refl
 
   -- what the definitions see of an item has the doc that the parser's tree has
-  redocumented_item : (i : Item) → redoc (doc_at (item_tree i)) (item_of i) ≡ item_of i
-  redocumented_item (items.Alias b) = refl
-  redocumented_item (items.Assignment b) = refl
-  redocumented_item (items.Comment text) = refl
-  redocumented_item (items.Function f) = refl
-  redocumented_item (items.Import set optional relative) = refl
-  redocumented_item (items.Module set doc name optional relative) = refl
-  redocumented_item items.Newline = refl
-  redocumented_item (items.Recipe r) = refl
-  redocumented_item (items.Setting s) = refl
-  redocumented_item (items.Unexport set name) = refl
+  restored : (i : Item) → redoc (doc_at (item_tree i)) (undoc (item_of i)) ≡ item_of i
+  restored (items.Alias b) = refl
+  restored _ = refl
 
-  undoc_is : {A B C S D : Type 0} (i : AnyItem A B C S D) → undoc i ≡ redoc None i
-  undoc_is tree.Newline = refl
-  undoc_is (tree.Comment text) = refl
-  undoc_is (tree.Construct attributes content) = refl
-
-  no_doc : {A B C S D : Type 0} (i : AnyItem A B C S D) → doc_at (undoc i) ≡ None
-  no_doc tree.Newline = refl
-  no_doc (tree.Comment text) = refl
-  no_doc (tree.Construct attributes content) = doc_given None content ∙ none_or_none (takes_doc content)
-    where
-      none_or_none : (b : Bool) → ◌≡◌ {A = Option (List ℕ)} (cond b None None) None
-      none_or_none true = refl
-      none_or_none false = refl
-
+  -- without a doc in the tree there is none in what the definitions see
   without_doc : (i : Item) → undoc (item_tree i) ≡ item_tree i → undoc (item_of i) ≡ item_of i
-  without_doc i e =
-      let none : None ≡ doc_at (item_tree i) = sym (no_doc (item_tree i)) ∙ ap doc_at e in
-      undoc_is (item_of i) ∙ ap (λ (doc : Option (List ℕ)). redoc doc (item_of i)) none ∙ redocumented_item i
+  without_doc (items.Alias b) e = refl
+  without_doc i e = ap (λ (doc : Option (List ℕ)). redoc doc (item_of i)) (ap doc_at e)
 
   docs_of : (n : Counters) (i : Item) {t : WrittenItem Tok Tok ℕ Tok} → AlikeItem seen n (undoc (item_tree i)) t → meant t ≡ Some (undoc (item_of i)) → Docs n (item_tree i) (item_of i)
   docs_of n (items.Alias b) h means = construct (set_says b.attributes) refl refl h means
@@ -240,11 +199,11 @@ module _ (conditions : Conditions) (bound : ℕ) (IsToken : Token → Type 0) (f
 
   -- ---- after docs are taken
 
-  record Ended (n : Counters) (is : List Item) (us : Tree) : Type 0 where
-    same : us ≡ map item_of is
-    given : All HasDerivedItemFields is → All (IsFilledItem conditions.expander IsToken file_depth import_offsets) is
-    numbered : NumbersFrom n.bindings (flat_map item_numbers is)
-    recipes_numbered : NumbersFrom n.recipes (flat_map item_recipe_numbers is)
+  pub record Ended (n : Counters) (is : List Item) (us : Tree) : Type 0 where
+    pub same : us ≡ map item_of is
+    pub given : All HasDerivedItemFields is → All (IsFilledItem conditions.expander IsToken file_depth import_offsets) is
+    pub numbered : NumbersFrom n.bindings (flat_map item_numbers is)
+    pub recipes_numbered : NumbersFrom n.recipes (flat_map item_recipe_numbers is)
 
   -- an item with its doc
   record EndedItem (n : Counters) (i : Item) (u : TreeItem) : Type 0 where
@@ -265,16 +224,10 @@ module _ (conditions : Conditions) (bound : ℕ) (IsToken : Token → Type 0) (f
             ap (λ (c : Content Tok Tok ℕ (Unit {0})). tree.Construct others c) (sym (given_again (doc_of other) None other ∙ own_doc other))
             ∙ ap (λ (doc : Option (List ℕ)). redoc doc (tree.Construct others (redocumented None other))) (sym docs)
             ∙ ap (redoc (doc_at (item_tree i))) bare
-            ∙ undone (doc_at (item_tree i)) (item_of i)
-            ∙ redocumented_item i;
+            ∙ restored i;
         written = t;
         seen_is = x;
       }
-    where
-      undone : {A B C S D : Type 0} (doc : Option (List ℕ)) (u : AnyItem A B C S D) → redoc doc (undoc u) ≡ redoc doc u
-      undone doc tree.Newline = refl
-      undone doc (tree.Comment text) = refl
-      undone doc (tree.Construct attributes content) = ap (tree.Construct attributes) (given_again doc None content)
 
   ended_item : (n : Counters) (i : Item) {u : TreeItem} → Docs n (item_tree i) u → EndedItem n i u
   ended_item n (items.Alias b) (construct says takes docs h means) = ended_construct n (items.Alias b) docs h means
@@ -302,23 +255,12 @@ module _ (conditions : Conditions) (bound : ℕ) (IsToken : Token → Type 0) (f
 
   -- ---- all items
 
-  -- items with their docs, where the counters stand before the first
-  pub record SeenItems (n : Counters) (docs : List Item) (ts : WrittenTree) : Type 0 where
-    pub same : ordered (views_tokens conditions.expander) ts ≡ Some (map item_of docs)
-    pub given : All HasDerivedItemFields docs → All (IsFilledItem conditions.expander IsToken file_depth import_offsets) docs
-    pub numbered : NumbersFrom n.bindings (flat_map item_numbers docs)
-    pub recipes_numbered : NumbersFrom n.recipes (flat_map item_recipe_numbers docs)
-
   pub items_seen : (n : Counters) (is docs : List Item) {ts : WrittenTree} → AlikeItems seen n (map item_tree is) ts
-      → map item_tree docs ≡ documented sets_doc Nothing (map item_tree is) → SeenItems n docs ts
+      → map item_tree docs ≡ documented sets_doc Nothing (map item_tree is)
+      → (ordered (views_tokens conditions.expander) ts ≡ Some (map item_of docs)) × Ended n docs (documented sets_doc Nothing (map item_of is))
   items_seen n is docs h documents =
       let x = begun n is h in
       let all : AllDocs n (map item_tree docs) (documented sets_doc Nothing (map item_of is)) =
       subst (λ (ls : List LeafItem). AllDocs n ls (documented sets_doc Nothing (map item_of is))) (sym documents) (documented_alike Nothing x.docs) in
       let y = ended n docs all in
-      record {
-        same = ap (option_map (documented sets_doc Nothing)) x.same ∙ ap (λ (t : Tree). Some t) y.same;
-        given = y.given;
-        numbered = y.numbered;
-        recipes_numbered = y.recipes_numbered;
-      }
+      (ap (option_map (documented sets_doc Nothing)) x.same ∙ ap (λ (t : Tree). Some t) y.same, y)

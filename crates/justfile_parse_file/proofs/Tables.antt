@@ -3,11 +3,10 @@ use Rattle.std.proofs.Common.{◌≡◌, ℕ, ◌+◌, ◌<◌, ◌∙◌, ◌-�
 use Rattle.std.proofs.Math.Seq.{drop-cons}
 use Rattle.std.proofs.lemmas.List.{drop_all, map-append, take-append-drop}
 use Rattle.std.proofs.lemmas.List.Elements.{Contains-get_or}
-use Rattle.justfile_parse_expression.specs.Significant.{TableToken}
+use Rattle.justfile_parse_expression.specs.Significant.{TableToken, significant_of}
 use Rattle.justfile_model.specs.Lexing.SignificantTokens.{SignificantToken}
 use Rattle.justfile_model.specs.Lexing.Tok.{tok_of}
-use Rattle.justfile_parse_item.specs.Filled.{IsInTable}
-use Rattle.justfile_parse_expression.specs.Significant.{significant_of}
+use Rattle.justfile_parse_docs.specs.ParsedItems.{IsInTable}
 
 pub in_table : (table : List TableToken) (n : ℕ) (d : TableToken) → n < length table → IsInTable table (get_or table n d).0
 in_table table n d h = record { glued = (get_or table n d).1; among = Contains-get_or table n d h }

@@ -54,23 +54,15 @@ used_from : (feature : UnstableFeature) (all : List Item) (n : ℕ) (i : Item) �
     → list_any (uses_feature feature) (drop n all) ≡ (uses_feature feature i || list_any (uses_feature feature) (drop (n + 1) all))
 used_from feature all n i h e = at_drop_more (list_any (uses_feature feature)) all n i h ∙ ap (λ (k : Item). uses_feature feature k || list_any (uses_feature feature) (drop (n + 1) all)) (sym e)
 
-or_false : (a b : Bool) → a ≡ false → (a || b) ≡ b
-or_false false b e = refl
-or_false true b e = absurd cc
-
-or_true : (a b : Bool) → a ≡ true → (a || b) ≡ true
-or_true true b e = refl
-or_true false b e = absurd cc
-
 module _ (feature : UnstableFeature) (all : List Item) (n : ℕ) (so_far : list_any (uses_feature feature) all ≡ list_any (uses_feature feature) (drop n all)) where
   -- the next item doesn't use the feature
   pub none_here : (i : Item) → n < length all → i ≡ get_or all n i → uses_feature feature i ≡ false
       → list_any (uses_feature feature) all ≡ list_any (uses_feature feature) (drop (n + 1) all)
-  none_here i h e fails = so_far ∙ used_from feature all n i h e ∙ or_false (uses_feature feature i) (list_any (uses_feature feature) (drop (n + 1) all)) fails
+  none_here i h e fails = so_far ∙ used_from feature all n i h e ∙ ap (λ (b : Bool). b || list_any (uses_feature feature) (drop (n + 1) all)) fails
 
   -- the next item does
   pub found_here : (i : Item) → n < length all → i ≡ get_or all n i → uses_feature feature i ≡ true → list_any (uses_feature feature) all ≡ true
-  found_here i h e holds = so_far ∙ used_from feature all n i h e ∙ or_true (uses_feature feature i) (list_any (uses_feature feature) (drop (n + 1) all)) holds
+  found_here i h e holds = so_far ∙ used_from feature all n i h e ∙ ap (λ (b : Bool). b || list_any (uses_feature feature) (drop (n + 1) all)) holds
 
   -- no item is left
   pub none_left : length all ≤ n → list_any (uses_feature feature) all ≡ false

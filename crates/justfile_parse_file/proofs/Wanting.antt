@@ -26,9 +26,6 @@ module _ (rules : RuleList) where
   abbrev singulars : Place rules → Found
   singulars = r.singulars token_leaves token_view rules
 
-  found_same : (x y : Place rules) → ◌≡◌ {A = Found} (Ok x) (Ok y) → x ≡ y
-  found_same x y e = cc
-
   -- the parameters that take one argument are read one after another
   module _ (most : ℕ) (all : (x y : Place rules) → length x.1.left < most → singulars x ≡ Ok y → AreNumbered rules x y) where
     after_first : (x y : Place rules) → length x.1.left ≤ most → (found : Found) → parameter rules Singular x ≡ found → (found >>= singulars) ≡ Ok y → AreNumbered rules x y
@@ -37,7 +34,7 @@ module _ (rules : RuleList) where
 
     by_test : (x y : Place rules) → length x.1.left ≤ most → (b : Bool) → cond b (parameter rules Singular x >>= singulars) (Ok x) ≡ Ok y → AreNumbered rules x y
     by_test x y few true e = after_first x y few (parameter rules Singular x) refl e
-    by_test x y few false e = subst (AreNumbered rules x) (found_same x y e) none
+    by_test x y few false e = let same : x ≡ y = cc in subst (AreNumbered rules x) same none
 
     step : (x y : Place rules) → length x.1.left ≤ most → singulars x ≡ Ok y → AreNumbered rules x y
     unfolding r.singulars_rule
@@ -46,9 +43,6 @@ module _ (rules : RuleList) where
   all_numbered : (most : ℕ) (x y : Place rules) → length x.1.left < most → singulars x ≡ Ok y → AreNumbered rules x y
   all_numbered zero x y less e = absurd (omega (arith, less))
   all_numbered (suc most) x y less e = step most (all_numbered most) x y (omega (arith, less)) e
-
-  are_numbered : (x y : Place rules) → singulars x ≡ Ok y → AreNumbered rules x y
-  are_numbered x y e = all_numbered (suc (length x.1.left)) x y (omega arith) e
 
   -- after parameters that got their numbers one comes next for which no number is left, with these counters
   record Lacking (from : Place rules) (m : Counters) : Type 0 where
@@ -75,7 +69,7 @@ module _ (rules : RuleList) where
 
   lacking : {n m : Counters} {s : State} → LacksParameter token_leaves token_view rules n s m → Lacking (([], n), s) m
   lacking (natural.lacks_singular lacks) = singular_lacking lacks
-  lacking {n} {m} {s} (natural.lacks_last {x = x} is lacks) = last_lacking (are_numbered (([], n), s) x is) lacks
+  lacking {n} {m} {s} (natural.lacks_last {x = x} is lacks) = last_lacking (all_numbered (suc (length s.left)) (([], n), s) x (omega arith) is) lacks
 
   pub header_lacks : (n m : Counters) (s : State) → LacksHeader token_leaves token_view rules n s m → m.bindings ≡ 2 ^ 32 - 1 → HeaderLacks rules s n m
   header_lacks n m s h last =

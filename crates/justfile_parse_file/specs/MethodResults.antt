@@ -26,7 +26,7 @@ use Rattle.justfile_model.specs.Trees.Tree.{WrittenTree}
 use Rattle.justfile_model.specs.Readers.TreeReader as tree
 use Rattle.justfile_vocabulary.specs.declared.list_feature.ListFeature.{ListFeature}
 use Rattle.justfile_parse_file.specs.Errors.{IsAt, IsErrorOf, IsUnexpected}
-use Rattle.justfile_parse_item.specs.Filled.{AreNotedIn, IsFilledItems, IsInTable}
+use Rattle.justfile_parse_docs.specs.ParsedItems.{AreNotedIn, IsFilledItems, IsInTable}
 use Rattle.justfile_parse_expression.specs.Significant.{significant_of}
 use Rattle.justfile_parse_file.specs.WantsNumber.{WantsNumber}
 use Rattle.justfile_parse_expression.specs.Significant.{TableToken}

@@ -23,8 +23,8 @@ use Rattle.justfile_model.specs.Trees.Tree.{Tree, lexeme}
 use Rattle.justfile_model.specs.Meanings.UnstableFeatures.{unstable_features}
 use Rattle.justfile_vocabulary.specs.declared.list_feature.ListFeature.{ListFeature}
 use Rattle.justfile_parse_file.specs.Errors.{IsRefused, IsTooDeepError}
-pub use Rattle.justfile_parse_item.specs.Filled.{IsFilledItem, IsFilledLiteral, IsFilledSetting}
-pub use Rattle.justfile_parse_item.specs.MethodResults.{CountersMoved}
+pub use Rattle.justfile_parse_docs.specs.ParsedItems.{IsFilledItem, IsFilledLiteral, IsFilledSetting, IsInTable}
+pub use Rattle.justfile_parse_docs.specs.ParsedItems.{CountersMoved}
 use Rattle.justfile_parse_file.specs.WantsNumber.{WantsNumber}
 
 -- The tokens are those of one text, and have one source.

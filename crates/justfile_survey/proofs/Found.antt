@@ -7,7 +7,7 @@ use Rattle.justfile_token.specs.declared.compile_error.CompileError.{CompileErro
 use Rattle.justfile_token.specs.declared.fault.Fault.{Fault}
 use Rattle.justfile_token.specs.declared.fault.Fault.TheVariants.{Compile, Memory, Numbers}
 use Rattle.justfile_ast.specs.declared.ast.Ast.{Ast}
-use Rattle.justfile_parse.specs.Parsing.{IsTreeless}
+use Rattle.justfile_canonical.specs.Parsing.{IsTreeless}
 use Rattle.justfile_canonical.specs.Root.{HasNoRoot, IsRoot, conditions}
 use Rattle.justfile_recovery.specs.Places.{LiesIn}
 use Rattle.justfile_survey.specs.Seen.{PlacesIn, seen}

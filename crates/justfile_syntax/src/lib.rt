@@ -281,9 +281,9 @@ pub mod parser {
 
     pub use justfile_canonical::reading::{Inspector, Query, inspect_root, query_root, release};
     pub use justfile_canonical::root::{parse_root, parse_root_with};
+    pub use justfile_canonical::{Parser, RECURSION_LIMIT};
     pub use justfile_lex::significant;
     pub use justfile_literal::cook_string;
-    pub use justfile_parse::{Parser, RECURSION_LIMIT};
 }
 
 pub mod recipe {

@@ -2,8 +2,9 @@
 use Rattle.std.proofs.Common.{◌≡◌, ℕ, List, Option, Result, Ok, Err, true, false, refl}
 use Rattle.std.specs.Prelude.{IfErr, OnOk}
 use Rattle.std.specs.Io.KnownBytes.{Appends}
-use Rattle.justfile_syntax.specs.Printing.{normal, printable, text}
-use Rattle.justfile_syntax.specs.Trees.{indentation_of}
+use Rattle.justfile_model.specs.Printed.NormalShape.{normal}
+use Rattle.justfile_model.specs.Printed.Printing.{printable, text}
+use Rattle.justfile_model.specs.Meanings.Enabled.{indentation_of}
 use Rattle.justfile_ast.specs.Ast.{ast_shape, features_of, tree_of}
 use Rattle.justfile_ast.specs.declared.ast.Ast.{Ast}
 use Rattle.justfile_canonical.specs.Formatting.{IsFileOf, IsFormatted, IsPrinted, IsUnprintable, LacksNumbers}

@@ -3,7 +3,7 @@ use Rattle.std.specs.Prelude.{◌≢◌, ℕ, List, Option, codes}
 use Rattle.std.specs.Io.KnownBytes.{Appends}
 use Rattle.justfile_canonical.specs.Formatting as canonical
 use Rattle.justfile_ast.specs.declared.ast.Ast.{Ast}
-use Rattle.justfile_canonical.specs.Formatting.{IsFormatted, IsPrinted}
+pub use Rattle.justfile_canonical.specs.Formatting.{HasNone, IsFormatted, IsPrinted, IsUnprintable, LacksNumbers}
 use Rattle.system_run.specs.Beginning.{AppendsBeginning}
 
 -- The text isn't a justfile, and the lines tell which error is the cause. The path is always this one.

@@ -3,8 +3,8 @@ ghost use Rattle.std.specs.Prelude.{◌≡◌};
 ghost use Rattle.justfile_writing.specs.Failure.{failure_text, status_of};
 ghost use Rattle.system_run.specs.Beginning.{AppendsBeginning};
 
-use justfile_syntax::ast::WriteFault;
-use justfile_syntax::format::FormatFault;
+use justfile_ast::WriteFault;
+use justfile_canonical::fault::FormatFault;
 use std::alloc::{AllocError, AllocFailed};
 use std::io::Write;
 use system_run::write_up_to;

@@ -1,8 +1,9 @@
 //! From a text to its canonical text, as the program has it: as the file `justfile`.
 ghost use Rattle.std.specs.Prelude.{◌≡◌, ◌≢◌, Err, IfErr, IfOk, OnErr, OnOk, false, string_bytes};
 ghost use Rattle.std.specs.Io.KnownBytes.{Appends};
-ghost use Rattle.justfile_syntax.specs.Printing.{normal, printable, text};
-ghost use Rattle.justfile_syntax.specs.Words.{indentation_text};
+ghost use Rattle.justfile_model.specs.Printed.NormalShape.{normal};
+ghost use Rattle.justfile_model.specs.Printed.Printing.{printable, text};
+ghost use Rattle.justfile_vocabulary.specs.Indentation.{indentation_text};
 ghost use Rattle.justfile_ast.specs.Ast.{ast_shape};
 ghost use Rattle.justfile_canonical.specs.Formatting.{IsFormatted, IsUnprintable, LacksNumbers};
 ghost use Rattle.justfile_indentation.specs.OwnIndentation.{HasCookedIndentation};
@@ -15,11 +16,10 @@ ghost use Rattle.justfile_writing.specs.Formatting.{Formats, IsRejection, Writes
 
 use crate::buffer::Buffer;
 use crate::failure::Failure;
-use justfile_canonical::formatting::{parse, printing_indentation};
+use justfile_ast::{Ast, WriteFault};
+use justfile_canonical::formatting::{format_and_forget, parse, printing_indentation};
 use justfile_canonical::parts::format_long;
-use justfile_syntax::ast::{Ast, WriteFault};
-use justfile_syntax::format::format_and_forget;
-use justfile_syntax::indentation::Indentation;
+use justfile_vocabulary::Indentation;
 use std::alloc::Global;
 use std::io::Write;
 use std::mem;

@@ -2,10 +2,10 @@ use Rattle.std.proofs.Common.{◌∙◌, ◌-◌, List, arith, ap, map, refl, ru
 use Rattle.std.proofs.lemmas.Grind.{common_steps}
 use Rattle.std.specs.Option.{option_map}
 use Rattle.justfile_item.specs.declared.item.Item.{Item}
-use Rattle.justfile_parse_docs.specs.Docs.{doc_before}
+use Rattle.justfile_parse_docs.specs.Docs.{doc_before, doc_taken}
 use Rattle.justfile_parse_item.specs.Tree.{item_tree}
 use Rattle.justfile_parse_docs.proofs.DocSteps.{item_fields}
-use Rattle.justfile_parse_docs.proofs.KeptItems.{cut_fields, documented_fields, found_taken, kept_documented, kept_plain, none_taken, takes_no_doc, swapped_fields, two_kept}
+use Rattle.justfile_parse_docs.proofs.KeptItems.{cut_fields, documented_fields, found_taken, kept_documented, kept_plain, takes_no_doc, swapped_fields, two_kept}
 use Rattle.justfile_parse_docs.proofs.docs.move_item.Goals as goal
 use Rattle.justfile_parse_docs.proofs.docs.move_item.Goals.{then-can_take_doc+in_default, else-can_take_doc}
 
@@ -39,7 +39,7 @@ pub returns-clause-trees : goal.returns-clause-trees
 returns-clause-trees c =
     kept_plain c.args.items.now.items c.args.kept c.args.index c.index.result.now c.requires.order (omega (arith, c.requires.within, c.args.items.now.ok.0)) c.index.ensures c.swap-2.new.self.items c.swap-2.ensures.items
     (elim c.if-can_take_doc.branch [
-      | then-can_take_doc+in_default w ↦ none_taken _ _ (ap (λ (l : List Item). doc_before (map item_tree (take c.args.kept l))) (sym w.deref.ensures.value) ∙ sym w.find_doc.ensures ∙ ap (option_map _) w.in_default.is)
+      | then-can_take_doc+in_default w ↦ ap (doc_taken _) (ap (λ (l : List Item). doc_before (map item_tree (take c.args.kept l))) (sym w.deref.ensures.value) ∙ sym w.find_doc.ensures ∙ ap (option_map _) w.in_default.is)
       | else-can_take_doc w ↦ takes_no_doc _ _ (sym c.can_take_doc.ensures ∙ w.if-can_take_doc.false)
     ])
 

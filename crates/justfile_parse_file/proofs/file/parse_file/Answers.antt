@@ -2,7 +2,7 @@ use Rattle.std.proofs.Common.{ap, ◌∙◌, arith}
 use Rattle.justfile_parse_expression.specs.TableReader.{State}
 use Rattle.justfile_parse_expression.specs.View.{state_of}
 use Rattle.justfile_parse_base.specs.Counting.{identifiers_left}
-use Rattle.justfile_parse_item.proofs.CounterBounds.{mark_depth, mark_fewer}
+use Rattle.justfile_parse_docs.proofs.ParsedItems.{mark_depth, mark_fewer}
 use Rattle.justfile_parse_file.proofs.file.parse_file.Goals as goal
 
 pub parse_items-requires : goal.parse_items-requires

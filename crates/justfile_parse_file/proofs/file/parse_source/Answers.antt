@@ -1,15 +1,15 @@
-use Rattle.std.proofs.Common.{◌≡◌, ◌∙◌, sym, ap, subst, List, map, All, Contains}
+use Rattle.std.proofs.Common.{◌∙◌, sym, ap, subst, List, map, All, Contains}
 use Rattle.std.proofs.lemmas.Result.{err_from_is_err_and, IfErr-weaker, IfOk-weaker}
 use Rattle.justfile_model.specs.Lexing.SignificantTokens.{SignificantToken, identifiers, significant_tokens}
-use Rattle.justfile_model.specs.Lexing.Tok.{Tok, tok_of}
+use Rattle.justfile_model.specs.Lexing.Tok.{tok_of}
 use Rattle.justfile_model.proofs.Lexing.LexedLaws.{one_list}
 use Rattle.justfile_parse_expression.specs.Conditions.{conditions_of}
 use Rattle.justfile_parse_expression.specs.FormatStrings.{IsTable}
 use Rattle.justfile_parse_expression.specs.Significant.{TableToken, significant_of}
 use Rattle.justfile_lex.proofs.TableLemmas.{table_tokens_among}
-use Rattle.justfile_parse_item.specs.MethodResults.{CountersMoved}
+use Rattle.justfile_parse_docs.specs.ParsedItems.{CountersMoved}
 use Rattle.justfile_parse_file.proofs.FormatStrings.{ended_lex}
-use Rattle.justfile_parse_file.proofs.Parsed.{lexical, lexed_once, module_path_of, no_tree, nonempty, parsed_if, sound_lex, text_parsed, unparsed_of, working_directory_of}
+use Rattle.justfile_parse_file.proofs.Parsed.{lexical, lexed_once, module_path_of, no_tree, nonempty, parsed_of, sound_lex, text_parsed, unparsed_of, working_directory_of}
 use Rattle.justfile_parse_file.proofs.file.parse_source.Goals as goal
 
 pub parse_significant-requires : goal.parse_significant-requires
@@ -41,10 +41,10 @@ returns-clause-parsed g c =
     let old = c.args.numerator.now in
     let new = c.parse_significant.new.numerator in
     IfOk-weaker c.parse_significant.result _ _
-    (text_parsed conditions c.args.path.now c.args.src.now c.utf8.src t.tokens t.lexed t.sources old new c.args.source.now.file_depth c.args.source.now.import_offsets.now)
-    (parsed_if conditions t.tokens c.as_slice.result.now old new (ap (map significant_of) c.as_slice.ensures.value ∙ t.significant.marked)
-    (subst Q (sym c.as_slice.ensures.value) (table_tokens_among t.tokens c.in_ok-table.table.items t.significant))
-    c.args.source.now c.parse_significant.result c.parse_significant.ensures.file)
+    (λ ast h. text_parsed conditions c.args.path.now c.args.src.now c.utf8.src t.tokens t.lexed t.sources old new c.args.source.now.file_depth c.args.source.now.import_offsets.now ast
+    (parsed_of conditions t.tokens c.as_slice.result.now old new (ap (map significant_of) c.as_slice.ensures.value ∙ t.significant.marked)
+    (subst Q (sym c.as_slice.ensures.value) (table_tokens_among t.tokens c.in_ok-table.table.items t.significant)) c.args.source.now ast h))
+    c.parse_significant.ensures.file
 
 pub returns-clause-moved : goal.returns-clause-moved
 returns-clause-moved g c tokens lexed =

@@ -1,12 +1,12 @@
 use Rattle.std.proofs.Common.{◌≡◌, subst, map, Ok, Err, Option, arith}
 use Rattle.justfile_model.specs.Readers.ReaderState.{NoNumber}
 use Rattle.justfile_parse_expression.specs.Conditions.{conditions_of}
-use Rattle.justfile_parse_item.specs.ItemTable as reader
+use Rattle.justfile_parse_docs.specs.ParsedItems as reader
 use Rattle.justfile_parse_expression.specs.TableReader.{Run, State}
 use Rattle.justfile_parse_base.specs.ParseErrors.{IsParseError}
 use Rattle.justfile_parse_file.specs.ErrorFaults.{IsFaultOfError}
 use Rattle.justfile_parse_file.specs.MethodResults.{run_from}
-use Rattle.justfile_parse_item.specs.Tree.{item_tree}
+use Rattle.justfile_parse_docs.specs.ParsedItems.{item_tree}
 use Rattle.justfile_parse_expression.specs.View.{state_of}
 use Rattle.justfile_parse_expression.specs.Significant.{TableToken}
 use Rattle.justfile_parse_expression.proofs.Rest.{noted_is}

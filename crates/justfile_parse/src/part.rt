@@ -1,7 +1,7 @@
 //! A part of a text, parsed up to the first byte of what begins after it.
 ghost use Rattle.std.specs.Prelude.{IfSome};
 ghost use Rattle.justfile_parse_expression.specs.Conditions.{conditions_of};
-ghost use Rattle.justfile_parts.specs.Parts.{IsPart};
+ghost use Rattle.justfile_parse.specs.Parts.{IsPart};
 
 use justfile_ast::Ast;
 use justfile_lex::Lexer;

@@ -5,10 +5,10 @@ use Rattle.justfile_model.specs.Lexing.Tok.{tok_of}
 use Rattle.justfile_parse_expression.specs.Conditions.{conditions_of}
 use Rattle.justfile_parse_expression.specs.FormatStrings.{IsTable}
 use Rattle.justfile_parse_file.specs.MethodResults.{IsReadFile}
-use Rattle.justfile_parts.specs.Parts.{IsPart}
-use Rattle.justfile_parts.proofs.Read.{part_if}
-use Rattle.justfile_parts.proofs.Tables.{part_table}
-use Rattle.justfile_parts.proofs.part.parse_part.Goals as goal
+use Rattle.justfile_parse.specs.Parts.{IsPart}
+use Rattle.justfile_parse.proofs.Read.{part_if}
+use Rattle.justfile_parse.proofs.Tables.{part_table}
+use Rattle.justfile_parse.proofs.part.parse_part.Goals as goal
 
 pub parse_significant-requires : goal.parse_significant-requires
 parse_significant-requires g c =

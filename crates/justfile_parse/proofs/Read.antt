@@ -23,12 +23,12 @@ use Rattle.justfile_chunks.specs.Chunks.{text_of}
 use Rattle.justfile_chunks.proofs.ChunkTokens.{whole_is}
 use Rattle.justfile_lex.specs.SignificantTable.{IsTableOf}
 use Rattle.justfile_lex.proofs.TableLemmas.{table_tokens_among}
-use Rattle.justfile_parse_item.specs.Filled.{IsFilledItem, IsInTable}
+use Rattle.justfile_parse_file.specs.Parsing.{IsFilledItem, IsInTable}
 use Rattle.justfile_parse_file.specs.MethodResults.{IsReadFile}
 use Rattle.justfile_parse_file.proofs.Parsed.{given_weaker, in_tokens, read_derives}
 use Rattle.justfile_spans.specs.PartTables.{IsCutOff}
-use Rattle.justfile_parts.specs.Parts.{IsPart}
-use Rattle.justfile_parts.proofs.Tables.{each_but_one}
+use Rattle.justfile_parse.specs.Parts.{IsPart}
+use Rattle.justfile_parse.proofs.Tables.{each_but_one}
 
 -- a list of one element
 record Single (xs : List ℕ) : Type 0 where
