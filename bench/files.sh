@@ -1,6 +1,6 @@
 #!/bin/sh
-# Tries the built program justfiles on the files of a scratch folder, and examples/pre-commit in a
-# scratch repository: files.sh [PROGRAM]
+# Tries the built program justfiles on the files of a scratch folder, on those of lint.cases, and
+# examples/pre-commit in a scratch repository: files.sh [PROGRAM]
 #
 # Each row is what is tried and how it ended. Ends with 1 if something ended otherwise than it should.
 # What needs another user or a small file system is tried only by root, system calls that fail only where
@@ -104,10 +104,37 @@ run --lint imports/justfile; row '--lint tells of what is wrong with a file and 
 error: recipe `b` has unknown dependency `d`
 error: import `imports/justfile` in `imports/one.just` is circular'
 rm imports/two.just
-run --lint imports/justfile; row 'an import without its file may have any name' "$status $(grep error ../output)" '1 error: import `imports/justfile` in `imports/one.just` is circular'
+run --lint imports/justfile; row 'and without one that it may have' "$status $(grep error ../output)" '1 error: recipe `a` has unknown dependency `c`
+error: recipe `b` has unknown dependency `d`
+error: import `imports/justfile` in `imports/one.just` is circular'
 rm imports/one.just
 run --lint imports/justfile; row 'an import that must have one is told' "$status $(grep error ../output)" '1 error: could not find source file for import'
 rm -r imports
+# Lints the files of a case, if there is one, and begins another: next_case WHAT
+next_case() {
+    if [ -n "$case" ]; then
+        run --lint tree/justfile
+        row "$case" "$status $(grep '^error' ../output)" "$wanted_status $wanted"
+        rm -r tree
+    fi
+    case=$1 wanted= wanted_status=0
+}
+case=
+next_case ''
+while IFS= read -r line; do
+    case $line in
+        '' | '#'*) ;;
+        '  error: '*) wanted="$wanted${wanted:+
+}${line#  }" wanted_status=1 ;;
+        '  '*)
+            name=${line#  } name=${name%%: *}
+            mkdir -p "tree/$(dirname "$name")"
+            printf '%b' "${line#*: }" > "tree/$name"
+            ;;
+        *) next_case "$line" ;;
+    esac
+done < "$top/bench/lint.cases"
+next_case ''
 number=100000
 awk -v n=$number 'BEGIN { for (i = 1; i < n; i++) print "r" i ": r" i + 1; print "r" n ":" }' > linted/justfile
 run --lint linted/justfile; row 'many recipes, each of which depends on the next' "$status $(text ../output)" '0 .'

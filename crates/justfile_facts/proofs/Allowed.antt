@@ -19,7 +19,7 @@ module _ (all : List Item) (i : ℕ) (item : Item) (inside : i < length all) (at
     default_script = more (sets scripts_by_default) k;
     duplicate_recipes = more (sets recipes_allowed) k;
     duplicate_variables = more (sets variables_allowed) k;
-    guards = more (sets has_guards) k;
+    guards = more has_guards k;
     ignore_comments = more (sets comments_ignored) k;
     lists = more (sets has_lists) k;
     «open» = (ap (λ b. imported || b) (more is_import) ∙ or_assoc imported (list_any is_import (take i all)) (is_import item)) k;

@@ -5,6 +5,7 @@ use Rattle.justfile_vocabulary.specs.declared.list_feature.ListFeature.{ListFeat
 use Rattle.justfile_token.specs.declared.token.Token.{Token}
 use Rattle.justfile_item.specs.declared.item.Item.{Item}
 use Rattle.justfile_facts.specs.Definitions.{item_definitions}
+use Rattle.justfile_facts.specs.Members.{item_members}
 use Rattle.justfile_facts.specs.Rules.{rules_of}
 use Rattle.justfile_facts.specs.Suspects.{item_suspects, noted}
 use Rattle.justfile_facts.specs.Uses.{item_uses}
@@ -15,4 +16,5 @@ pub record AreFactsOf (imported : Bool) (all : List Item) (features : List (List
   pub rules : found.rules ≡ rules_of imported all
   pub definitions : found.definitions.items ≡ flat_map item_definitions all
   pub uses : found.uses.items ≡ flat_map item_uses all
+  pub members : found.members.items ≡ flat_map item_members all
   pub suspects : found.suspects.items ≡ flat_map item_suspects all ++ flat_map noted features

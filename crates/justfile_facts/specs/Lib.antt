@@ -1,7 +1,9 @@
 pub mod Definitions
 pub mod Facts
 pub mod Imports
+pub mod Members
 pub mod Rules
 pub mod Scopes
+pub mod Submodules
 pub mod Suspects
 pub mod Uses

@@ -1,9 +1,10 @@
 -- What a file allows.
-use Rattle.std.specs.Prelude.{◌||◌, Bool, true, false, List}
+use Rattle.std.specs.Prelude.{◌&&◌, ◌||◌, Bool, true, false, List}
 use Rattle.std.specs.List.{list_any}
 use Rattle.justfile_problems.specs.declared.facts.Rules.{Rules}
 use Rattle.justfile_setting.specs.declared.setting.Setting.{Setting}
 use Rattle.justfile_setting.specs.declared.setting.Setting.TheVariants as settings
+use Rattle.justfile_item.specs.Item.{is_item_enabled}
 use Rattle.justfile_item.specs.declared.item.Item.{Item}
 use Rattle.justfile_item.specs.declared.item.Item.TheVariants as items
 
@@ -23,9 +24,9 @@ abbrev pub scripts_by_default : Setting → Bool
 scripts_by_default (settings.DefaultScript set) = set
 scripts_by_default other = false
 
-abbrev pub has_guards : Setting → Bool
-has_guards (settings.Guards set) = set
-has_guards other = false
+abbrev pub guards_set : Setting → Bool
+guards_set (settings.Guards set) = set
+guards_set other = false
 
 abbrev pub has_lists : Setting → Bool
 has_lists (settings.Lists set) = set
@@ -35,6 +36,10 @@ has_lists other = false
 abbrev pub sets : (Setting → Bool) → Item → Bool
 sets test (items.Setting s) = test s.value
 sets test other = false
+
+-- Whether an item makes `?` a sigil. One for another system doesn't, since more is wrong under this setting. Each other one allows more, so it counts wherever it is.
+abbrev pub has_guards : Item → Bool
+has_guards i = is_item_enabled i && sets guards_set i
 
 abbrev pub is_import : Item → Bool
 is_import (items.Import attributes optional relative) = true
@@ -47,7 +52,7 @@ rules_of imported all =
       default_script = list_any (sets scripts_by_default) all;
       duplicate_recipes = list_any (sets recipes_allowed) all;
       duplicate_variables = list_any (sets variables_allowed) all;
-      guards = list_any (sets has_guards) all;
+      guards = list_any has_guards all;
       ignore_comments = list_any (sets comments_ignored) all;
       lists = list_any (sets has_lists) all;
       «open» = imported || list_any is_import all;
@@ -60,7 +65,7 @@ with_item rules i =
       default_script = rules.default_script || sets scripts_by_default i;
       duplicate_recipes = rules.duplicate_recipes || sets recipes_allowed i;
       duplicate_variables = rules.duplicate_variables || sets variables_allowed i;
-      guards = rules.guards || sets has_guards i;
+      guards = rules.guards || has_guards i;
       ignore_comments = rules.ignore_comments || sets comments_ignored i;
       lists = rules.lists || sets has_lists i;
       «open» = rules.«open» || is_import i;

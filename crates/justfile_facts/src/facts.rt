@@ -3,6 +3,7 @@ ghost use Rattle.std.specs.Prelude.{IfOk};
 ghost use Rattle.justfile_facts.specs.Facts.{AreFactsOf};
 
 use crate::definitions::push_definitions;
+use crate::members::push_members;
 use crate::rules::rules;
 use crate::suspects::{push_features, push_suspects};
 use crate::uses::push_uses;
@@ -30,6 +31,8 @@ pub fn facts_of<'src>(
     push_definitions(items, &mut definitions)?;
     let mut uses = Vec::new(alloc);
     push_uses(items, alloc, &mut uses)?;
+    let mut members = Vec::new(alloc);
+    push_members(items, &mut members)?;
     let mut suspects = Vec::new(alloc);
     push_suspects(items, &mut suspects)?;
     push_features(features, &mut suspects)?;
@@ -37,6 +40,7 @@ pub fn facts_of<'src>(
         rules: rules(items, imported),
         definitions,
         uses,
+        members,
         suspects,
     })
 }

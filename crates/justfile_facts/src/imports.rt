@@ -104,7 +104,7 @@ fn push_import<'src>(
 }
 
 /// Whether a path leads to the file as it is.
-fn is_plain(relative: &StringLiteral<'_>) -> bool
+pub(crate) fn is_plain(relative: &StringLiteral<'_>) -> bool
     ensures { result ≡ is_plain relative.now }
 {
     !relative.expand && !relative.cooked.as_str().starts_with('~')

@@ -5,10 +5,13 @@
 mod definitions;
 mod facts;
 mod imports;
+mod members;
 mod rules;
 mod scopes;
+mod submodules;
 mod suspects;
 mod uses;
 
 pub use crate::facts::facts_of;
 pub use crate::imports::imports_of;
+pub use crate::submodules::submodules_of;

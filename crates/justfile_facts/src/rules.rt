@@ -1,12 +1,13 @@
 //! What a file allows.
 ghost use Rattle.std.specs.Prelude.{◌≡◌};
-ghost use Rattle.justfile_facts.specs.Rules.{comments_ignored, has_guards, has_lists, is_import, recipes_allowed, rules_of, scripts_by_default, sets, variables_allowed, with_item};
+ghost use Rattle.justfile_facts.specs.Rules.{comments_ignored, guards_set, has_guards, has_lists, is_import, recipes_allowed, rules_of, scripts_by_default, sets, variables_allowed, with_item};
 
 use justfile_item::Item;
 use justfile_problems::Rules;
 use justfile_setting::Setting;
 
-/// Returns what a file with these items allows. A setting for another system counts, too.
+/// Returns what a file with these items allows. A setting for another system counts, too, unless more
+/// is wrong with it.
 pub(crate) fn rules(items: &[Item<'_>], imported: bool) -> Rules
     ensures { result ≡ rules_of imported items.now }
 {
@@ -92,9 +93,16 @@ fn scripts_by_default(item: &Item<'_>) -> bool
     }
 }
 
-/// Whether the item makes `?` a sigil.
+/// Whether the item makes `?` a sigil on this system.
 fn has_guards(item: &Item<'_>) -> bool
-    ensures { result ≡ sets has_guards item.now }
+    ensures { result ≡ has_guards item.now }
+{
+    item.is_enabled() && sets_guards(item)
+}
+
+/// Whether the item makes `?` a sigil, on this system or another one.
+fn sets_guards(item: &Item<'_>) -> bool
+    ensures { result ≡ sets guards_set item.now }
 {
     match item {
         Item::Setting(set) => match set.value {

@@ -69,7 +69,4 @@ module _ (finds rejects : Judge) {O E : Type 0} (writes loses : O → List ℕ �
       case (failures.Rejected lines) r t =
           record { judgement = rejected (string_bytes lines); is_true = r; status_is = refl; left = refl; told = subst (λ l. FoldsTo tells e l f) t told }
       case (failures.Writing error) r t = cc
-      case (failures.Reading error) r t = one_failed files name messages t told
-      case (failures.NotUtf8 place) r t = one_failed files name messages t told
-      case (failures.Exhausted what) r t = one_failed files name messages t told
-      case (failures.Replacing error) r t = one_failed files name messages t told
+      case _ r t = one_failed files name messages t told

@@ -10,7 +10,7 @@ use Rattle.justfile_files.specs.FileResult.{AppliesResult, HandlesFile, HasResul
 use Rattle.justfile_files.specs.Folder.{Files, KeepsFiles, Replaces}
 use Rattle.justfile_files.specs.declared.failure.Failure.{Failure}
 use Rattle.justfile_files.specs.declared.failure.Failure.TheVariants as failures
-use Rattle.justfile_files.specs.Outcome.{BecomesFormatted, ChangesFiles, HasOutcome, HasOutcomes, HasReport, IsLost, IsReported, Outcome, Report, Takes, changed, changed_name, changed_names, differs, failed, formatted, greatest, lost, lost_messages, messages_of, none, rejected, report_of, status_of, with_report, written}
+use Rattle.justfile_files.specs.Outcome.{BecomesFormatted, ChangesFiles, HasOutcome, HasOutcomes, HasReport, IsLost, IsReported, Outcome, Report, Takes, changed, changed_name, changed_names, differs, failed, formatted, greatest, lost, lost_messages, messages_of, rejected, report_of, status_of, with_report}
 use Rattle.justfile_files.specs.Request.{changes_files, texts}
 use Rattle.justfile_files.specs.Visible.{visible_name}
 use Rattle.justfile_files.specs.declared.request.Task.{Task}
@@ -73,10 +73,7 @@ pub other_failure : (name message : List ℕ) (failure : Failure) → ((lines : 
     → (Some 3 ≡ failure_status failure) × TellFailure name failure (message ∷ [])
 other_failure name message (failures.Rejected lines) r w m = absurd (r lines refl)
 other_failure name message (failures.Writing error) r w m = absurd (w error refl)
-other_failure name message (failures.Reading error) r w m = (refl, (message, m, refl))
-other_failure name message (failures.NotUtf8 place) r w m = (refl, (message, m, refl))
-other_failure name message (failures.Exhausted what) r w m = (refl, (message, m, refl))
-other_failure name message (failures.Replacing error) r w m = (refl, (message, m, refl))
+other_failure name message _ r w m = (refl, (message, m, refl))
 
 -- ---- names of files that were changed
 
@@ -89,11 +86,8 @@ changed-push P (n ∷ names) (p ∷ outcomes) name o z =
     ap (λ l. changed_name n p ++ l) (changed-push P names outcomes name o z.1) ∙ sym (append_assoc (changed_name n p) (changed_names names outcomes) (changed_name name o))
 
 own_name : (name : List ℕ) (o : Outcome) (other : List ℕ) → Contains (changed_name name o) other → Contains (name ∷ []) other
-own_name name formatted other h = absurd (omega (arith, h.1))
 own_name name (changed report) other h = h
-own_name name (differs report) other h = absurd (omega (arith, h.1))
-own_name name (rejected lines) other h = absurd (omega (arith, h.1))
-own_name name (failed message) other h = absurd (omega (arith, h.1))
+own_name name _ other h = absurd (omega (arith, h.1))
 
 own_part : (name : List ℕ) (names mine theirs : List (List ℕ)) (other : List ℕ) → (Contains mine other → Contains (name ∷ []) other)
     → (Contains theirs other → Contains names other) → Contains mine other ⊎ Contains theirs other → Contains (name ∷ names) other
@@ -111,37 +105,17 @@ own_names (name ∷ names) (o ∷ outcomes) other h =
 -- ---- statuses
 
 reported_is : (o : Outcome) (status : ℕ) → Some status ≡ reported_status o → (status ≡ status_of o) × IsReported o
-reported_is formatted status e = (same_Some status 0 e, λ h. h)
-reported_is (changed none) status e = (same_Some status 0 e, λ h. h)
-reported_is (changed (written text)) status e = (same_Some status 0 e, λ h. h)
 reported_is (changed (lost text messages)) status e = cc
-reported_is (differs none) status e = (same_Some status 1 e, λ h. h)
-reported_is (differs (written text)) status e = (same_Some status 1 e, λ h. h)
 reported_is (differs (lost text messages)) status e = cc
-reported_is (rejected lines) status e = (same_Some status 2 e, λ h. h)
-reported_is (failed message) status e = (same_Some status 3 e, λ h. h)
+reported_is _ status e = (same_Some status _ e, λ h. h)
 
 lost_is : (o : Outcome) → None ≡ reported_status o → (status_of o ≡ 3) × IsLost (report_of o)
-lost_is formatted e = cc
-lost_is (changed none) e = cc
-lost_is (changed (written text)) e = cc
 lost_is (changed (lost text messages)) e = (refl, tt)
-lost_is (differs none) e = cc
-lost_is (differs (written text)) e = cc
 lost_is (differs (lost text messages)) e = (refl, tt)
-lost_is (rejected lines) e = cc
-lost_is (failed message) e = cc
+lost_is _ e = cc
 
 small_of : (o : Outcome) → status_of o ≤ 3
-small_of formatted = omega arith
-small_of (changed none) = omega arith
-small_of (changed (written text)) = omega arith
-small_of (changed (lost text messages)) = omega arith
-small_of (differs none) = omega arith
-small_of (differs (written text)) = omega arith
-small_of (differs (lost text messages)) = omega arith
-small_of (rejected lines) = omega arith
-small_of (failed message) = omega arith
+small_of o = grind arith
 
 pub small_status : (o : Outcome) (status : ℕ) → Some status ≡ reported_status o → status ≤ 3
 small_status o status e = subst (λ s. s ≤ 3) (sym (reported_is o status e).0) (small_of o)
@@ -178,7 +152,7 @@ module _ (formats : List ℕ → List ℕ → Type 0) (rejects : List ℕ → Li
     kept-trans : (files mid : Files) (a b c : Option (List ℕ)) → ChangesFiles formats task names files mid
         → (b ≡ a) ⊎ BecomesFormatted formats task names files a b → (c ≡ b) ⊎ BecomesFormatted formats task names mid b c
         → (c ≡ a) ⊎ BecomesFormatted formats task names files a c
-    kept-trans files mid a b c f (inl p) (inl q) = inl (q ∙ p)
+    kept-trans files mid a b c f p (inl q) = subst (λ new. (new ≡ a) ⊎ BecomesFormatted formats task names files a new) (sym q) p
     kept-trans files mid a b c f (inl p) (inr q) = first (f q.named)
       where
         first : (mid q.named ≡ files q.named) ⊎ BecomesFormatted formats task names files (files q.named) (mid q.named)
@@ -198,28 +172,9 @@ module _ (formats : List ℕ → List ℕ → Type 0) (rejects : List ℕ → Li
             let text_is : q.text ≡ r.text = settles r.source r.text q.source q.text (mid q.named) r.formatted r.is q.had q.formatted in
             let source_is : q.source ≡ r.text = same_Some q.source r.text (sym q.had ∙ r.is) in
             inl (q.is ∙ ap Some (text_is ∙ sym source_is) ∙ sym q.was ∙ p)
-    kept-trans files mid a b c f (inr p) (inl q) = inr (record {
-      changes = p.changes;
-      source = p.source;
-      text = p.text;
-      was = p.was;
-      is = q ∙ p.is;
-      formatted = p.formatted;
-      named = p.named;
-      is_given = p.is_given;
-      had = p.had;
-    })
-    kept-trans files mid a b c f (inr p) (inr q) = inr (record {
-      changes = p.changes;
-      source = p.source;
-      text = p.text;
-      was = p.was;
-      is = q.is ∙ ap Some (settles p.source p.text q.source q.text b p.formatted p.is q.was q.formatted);
-      formatted = p.formatted;
-      named = p.named;
-      is_given = p.is_given;
-      had = p.had;
-    })
+    kept-trans files mid a b c f (inr p) (inr q) =
+        let again = q.is ∙ ap Some (settles p.source p.text q.source q.text b p.formatted p.is q.was q.formatted) in
+        subst (λ new. (new ≡ a) ⊎ BecomesFormatted formats task names files a new) (sym (again ∙ sym p.is)) (inr p)
 
     pub changes-trans : (a b c : Files) → ChangesFiles formats task names a b → ChangesFiles formats task names b c → ChangesFiles formats task names a c
     changes-trans a b c f g = λ name. kept-trans a b (a name) (b name) (c name) f (f name) (g name)
@@ -287,14 +242,11 @@ module _ (formats : List ℕ → List ℕ → Type 0) (rejects : List ℕ → Li
     lifts : (old mid new : Option (List ℕ)) (o : Outcome) → (mid ≡ old) ⊎ BecomesFormatted formats task names files old mid
         → HasOutcome formats rejects task name mid new o → HasOutcome formats rejects task name old new o
     lifts old mid new o (inl e) h = subst (λ b. HasOutcome formats rejects task name b new o) e h
-    lifts old mid new formatted (inr b) h = h
     lifts old mid new (changed report) (inr b) h =
         let source_is : h.0 ≡ b.text = same_known h.0 b.text mid b.is h.2 in
         let again : h.1 ≡ h.0 = one h.0 h.1 h.0 h.4.formatted (subst (λ s. formats s s) (sym source_is) (settled b.source b.text b.formatted)) in
         absurd (h.4.differs again)
-    lifts old mid new (differs report) (inr b) h = h
-    lifts old mid new (rejected lines) (inr b) h = h
-    lifts old mid new (failed message) (inr b) h = h
+    lifts old mid new _ (inr b) h = h
 
   module _ {O : Type 0} (writes loses : O → List ℕ → O → Type 0) {E : Type 0} (tells : E → List ℕ → E → Type 0) where
     -- All reports so far were written.
@@ -450,10 +402,7 @@ module _ (formats : List ℕ → List ℕ → Type 0) (rejects : List ℕ → Li
             → (outcome : Outcome) × IsDone formats rejects task writes loses name old new a b outcome × (messages_of outcome ≡ messages) × (reported_status outcome ≡ failure_status f)
         told (failures.Rejected lines) e t = cc
         told (failures.Writing error) e t = cc
-        told (failures.Reading error) e t = one_told (failures.Reading error) e t
-        told (failures.NotUtf8 place) e t = one_told (failures.NotUtf8 place) e t
-        told (failures.Exhausted what) e t = one_told (failures.Exhausted what) e t
-        told (failures.Replacing error) e t = one_told (failures.Replacing error) e t
+        told f e t = one_told f e t
 
     pub result_rejected : (source : List ℕ) (lines : String Global) → IfSome (old name) (λ x. source ≡ x) → rejects (visible_name name) source (string_bytes lines) → KeepsFiles old new
         → b ≡ a → HasResult formats rejects task writes loses name old new a b (Err (failures.Rejected lines))
@@ -469,24 +418,17 @@ module _ (formats : List ℕ → List ℕ → Type 0) (rejects : List ℕ → Li
         → KeepsFiles old new → b ≡ a → HasResult formats rejects task writes loses name old new a b (Err failure)
     result_refused (failures.Rejected lines) source known refused kept same = result_rejected source lines known refused kept same
     result_refused (failures.Writing error) source known refused kept same = cc
-    result_refused (failures.Reading error) source known refused kept same = result_nothing (failures.Reading error) refused kept same
-    result_refused (failures.NotUtf8 place) source known refused kept same = result_nothing (failures.NotUtf8 place) refused kept same
-    result_refused (failures.Exhausted what) source known refused kept same = result_nothing (failures.Exhausted what) refused kept same
-    result_refused (failures.Replacing error) source known refused kept same = result_nothing (failures.Replacing error) refused kept same
+    result_refused failure source known refused kept same = result_nothing failure refused kept same
 
     -- the status of a report
     same_status : (report : Report) (status : ℕ) → unless_lost report (with_report report status) ≡ unless_lost report status
-    same_status none status = refl
-    same_status (written text) status = refl
-    same_status (lost text messages) status = refl
+    same_status report status = grind arith
 
     in_status : (report : Option (List ℕ)) (status : ℕ) → unless_lost (report_in report) status ≡ Some status
-    in_status None status = refl
-    in_status (Some text) status = refl
+    in_status report status = grind arith
 
     in_messages : (report : Option (List ℕ)) → lost_messages (report_in report) ≡ []
-    in_messages None = refl
-    in_messages (Some text) = refl
+    in_messages report = grind arith
 
     replaced_known : (text : List ℕ) (mid now : Option (List ℕ))
         → (now ≡ mid) ⊎ ((bytes : List ℕ) × (mid ≡ Some bytes) × (mid ≡ Some bytes) × (now ≡ Some text))
@@ -549,8 +491,4 @@ module _ (formats : List ℕ → List ℕ → Type 0) (rejects : List ℕ → Li
             done.3 ∙ in_status h.1.0 (if changes_files task then 0 else 1) ∙ ap (λ x. Some (if x then 0 else 1)) (sym h.0),
           )
       result_applied (Err (failures.Writing error)) h messages t = becomes_handled (lost h.0 messages) task refl h.2 (h.1, t) h.3
-      result_applied (Err (failures.Rejected lines)) h messages t = result_nothing (failures.Rejected lines) h.0 (λ n. h.1 n ∙ read n) h.2 messages t
-      result_applied (Err (failures.Reading error)) h messages t = result_nothing (failures.Reading error) h.0 (λ n. h.1 n ∙ read n) h.2 messages t
-      result_applied (Err (failures.NotUtf8 place)) h messages t = result_nothing (failures.NotUtf8 place) h.0 (λ n. h.1 n ∙ read n) h.2 messages t
-      result_applied (Err (failures.Exhausted what)) h messages t = result_nothing (failures.Exhausted what) h.0 (λ n. h.1 n ∙ read n) h.2 messages t
-      result_applied (Err (failures.Replacing error)) h messages t = result_nothing (failures.Replacing error) h.0 (λ n. h.1 n ∙ read n) h.2 messages t
+      result_applied (Err failure) h messages t = result_nothing failure h.0 (λ n. h.1 n ∙ read n) h.2 messages t

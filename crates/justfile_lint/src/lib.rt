@@ -6,5 +6,5 @@ mod module;
 mod name;
 
 pub use crate::file::{Findings, lint, lint_with_circles};
-pub use crate::module::{file_imports, module_file};
+pub use crate::module::{FileFacts, FileLinks, file_facts, file_links};
 pub use crate::name::may_be_imported;

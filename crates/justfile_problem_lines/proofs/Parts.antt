@@ -1,57 +1,62 @@
--- The lines of a module's files, one after the other.
-use Rattle.std.proofs.Common.{◌≡◌, ◌∙◌, ◌<◌, ◌+◌, ℕ, Global, List, [], ◌∷◌, ◌++◌, Result, Ok, Err, String, ap, append-nil, get_or, length, string_bytes, subst, sym, take}
+-- The lines of several things, one after the other, and those of the problems and circles of a file.
+use Rattle.std.proofs.Common.{◌≡◌, ◌∙◌, ◌<◌, ◌+◌, ℕ, Global, List, [], ◌∷◌, ◌++◌, Option, Result, Ok, Err, String, ap, append-nil, get_or, length, string_bytes, subst, sym, take}
 use Rattle.std.specs.Prelude.{IfOk, IsPermutation}
 use Rattle.std.specs.List.{concat}
 use Rattle.std.specs.List.Sorted.{IsNonDecreasingBy}
 use Rattle.std.proofs.lemmas.List.{take_more}
 use Rattle.std.proofs.lemmas.List.Folds.{concat-append}
+use Rattle.justfile_token.specs.declared.name.Name.{Name}
 use Rattle.justfile_problems.specs.Circular.{AreCirclesOf}
 use Rattle.justfile_problems.specs.Problems.{problems_within}
 use Rattle.justfile_problems.specs.declared.circular.Circle.{Circle}
 use Rattle.justfile_problems.specs.declared.facts.Definition.{Definition}
-use Rattle.justfile_problems.specs.declared.facts.Facts.{Facts}
 use Rattle.justfile_problems.specs.declared.facts.ModuleFile.{ModuleFile}
 use Rattle.justfile_problems.specs.declared.facts.Rules.{Rules}
 use Rattle.justfile_problems.specs.declared.facts.Suspect.{Suspect}
 use Rattle.justfile_problems.specs.declared.facts.Use.{Use}
 use Rattle.justfile_problems.specs.declared.problem.Problem.{Problem}
-use Rattle.justfile_problem_lines.specs.Lines.{TellCircles, TellProblems}
-use Rattle.justfile_problem_lines.specs.Modules.{TellCirclesOfFile, TellPart, TellParts}
+use Rattle.justfile_problem_lines.specs.Lines.{TellCircles, TellProblemsWithin}
+use Rattle.justfile_problem_lines.specs.Modules.{TellCirclesOfFile, TellEach, TellJudged}
 use Rattle.justfile_problem_lines.proofs.Told.{each_push}
 
--- one file more
-pub one_part : (rules : Rules) (all : List Definition) (files : List ModuleFile) (i : ℕ) (f : ModuleFile) (old new part : List ℕ) → i < length files → f ≡ get_or files i f
-    → TellParts rules all (take i files) old → TellPart rules all f.source.now f.facts part → new ≡ old ++ part → TellParts rules all (take (i + 1) files) new
-one_part rules all files i f old new part inside at so_far is e =
-    subst (λ l. TellParts rules all l new) (sym (take_more files i f inside ∙ ap (λ y. take i files ++ y ∷ []) (sym at)))
-    (record {
-      parts = so_far.parts ++ part ∷ [];
-      each = each_push (λ (g : ModuleFile) (p : List ℕ). TellPart rules all g.source.now g.facts p) (take i files) so_far.parts f part so_far.each is;
-      joined = e ∙ ap (λ l. l ++ part) so_far.joined ∙ sym (concat-append so_far.parts (part ∷ []) ∙ ap (λ l. concat so_far.parts ++ l) (append-nil part));
-    })
+module _ {X : Type 0} (Tells : X → List ℕ → Type 0) (these : List X) (i : ℕ) where
+  -- the thing at a place more
+  pub one_at : (d : X) (old new part : List ℕ) → i < length these → TellEach Tells (take i these) old → Tells (get_or these i d) part → new ≡ old ++ part → TellEach Tells (take (i + 1) these) new
+  one_at d old new part inside so_far is e =
+      subst (λ l. TellEach Tells l new) (sym (take_more these i d inside))
+      (record {
+        parts = so_far.parts ++ part ∷ [];
+        each = each_push Tells (take i these) so_far.parts (get_or these i d) part so_far.each is;
+        joined = e ∙ ap (λ l. l ++ part) so_far.joined ∙ sym (concat-append so_far.parts (part ∷ []) ∙ ap (λ l. concat so_far.parts ++ l) (append-nil part));
+      })
 
-module _ {E : Type 0} (source : List ℕ) (facts : Facts) (own : List Definition) (uses : List Use) (same_own : own ≡ facts.definitions.items) (same_uses : uses ≡ facts.uses.items) where
-  -- the lines of a file's problems, which were found in slices of what it says
-  pub problems_told : (rules : Rules) (all : List Definition) (suspects : List Suspect) (found passed : List Problem) (r : Result (String Global) E) → suspects ≡ facts.suspects.items → passed ≡ found
-      → IsPermutation (problems_within rules all own uses suspects) found → IsNonDecreasingBy (λ (p : Problem). p.token.offset) found
-      → IfOk r (λ lines. TellProblems source passed (string_bytes lines)) → IfOk r (λ lines. TellPart rules all source facts (string_bytes lines))
-  problems_told rules all suspects found passed (Ok lines) same_suspects same are in_order told = record {
-    problems = found;
-    are =
-        subst (λ l. IsPermutation (problems_within rules all l facts.uses.items facts.suspects.items) found) same_own
-        (subst (λ l. IsPermutation (problems_within rules all own l facts.suspects.items) found) same_uses
-        (subst (λ l. IsPermutation (problems_within rules all own uses l) found) same_suspects are));
-    in_order = in_order;
-    told = subst (λ l. TellProblems source l (string_bytes lines)) same told;
-  }
-  problems_told rules all suspects found passed (Err failure) same_suspects same are in_order told = tt
+  -- one thing more
+  pub one_told : (x : X) (old new part : List ℕ) → i < length these → x ≡ get_or these i x → TellEach Tells (take i these) old → Tells x part → new ≡ old ++ part
+      → TellEach Tells (take (i + 1) these) new
+  one_told x old new part inside at so_far is e = one_at x old new part inside so_far (subst (λ y. Tells y part) at is) e
 
-  -- and those of its circles
-  pub circles_told : (found passed : List Circle) (r : Result (String Global) E) → passed ≡ found → AreCirclesOf own uses found → IfOk r (λ lines. TellCircles source passed (string_bytes lines))
-      → IfOk r (λ lines. TellCirclesOfFile source facts (string_bytes lines))
-  circles_told found passed (Ok lines) same are told = record {
-    circles = found;
-    are = subst (λ l. AreCirclesOf l facts.uses.items found) same_own (subst (λ l. AreCirclesOf own l found) same_uses are);
-    told = subst (λ l. TellCircles source l (string_bytes lines)) same told;
-  }
-  circles_told found passed (Err failure) same are told = tt
+-- the lines of problems that were found in slices
+pub problems_told : {E : Type 0} (owner : Option Name) (rules : Rules) (all own given_own : List Definition) (uses given_uses : List Use) (suspects given_suspects : List Suspect) (source : List ℕ) (found passed : List Problem)
+    (r : Result (String Global) E) → given_own ≡ own → given_uses ≡ uses → given_suspects ≡ suspects → passed ≡ found → IsPermutation (problems_within rules all given_own given_uses given_suspects) found
+    → IsNonDecreasingBy (λ (p : Problem). p.token.offset) found → IfOk r (λ lines. TellProblemsWithin owner source passed (string_bytes lines))
+    → IfOk r (λ lines. TellJudged owner rules all own uses suspects source (string_bytes lines))
+problems_told owner rules all own given_own uses given_uses suspects given_suspects source found passed (Ok lines) same_own same_uses same_suspects same are in_order told = record {
+  problems = found;
+  are =
+      subst (λ l. IsPermutation (problems_within rules all l uses suspects) found) same_own
+      (subst (λ l. IsPermutation (problems_within rules all given_own l suspects) found) same_uses
+      (subst (λ l. IsPermutation (problems_within rules all given_own given_uses l) found) same_suspects are));
+  in_order = in_order;
+  told = subst (λ l. TellProblemsWithin owner source l (string_bytes lines)) same told;
+}
+problems_told owner rules all own given_own uses given_uses suspects given_suspects source found passed (Err failure) same_own same_uses same_suspects same are in_order told = tt
+
+-- and those of circles
+pub circles_told : {E : Type 0} (f : ModuleFile) (own : List Definition) (uses : List Use) (found passed : List Circle) (r : Result (String Global) E) → own ≡ f.facts.definitions.items → uses ≡ f.facts.uses.items
+    → passed ≡ found → AreCirclesOf own uses found → IfOk r (λ lines. TellCircles f.source.now passed (string_bytes lines)) → IfOk r (λ lines. TellCirclesOfFile f (string_bytes lines))
+circles_told f own uses found passed (Ok lines) same_own same_uses same are told = record {
+  circles = found;
+  are = subst (λ l. AreCirclesOf l f.facts.uses.items found) same_own (subst (λ l. AreCirclesOf own l found) same_uses are);
+  told = subst (λ l. TellCircles f.source.now l (string_bytes lines)) same told;
+}
+circles_told f own uses found passed (Err failure) same_own same_uses same are told = tt

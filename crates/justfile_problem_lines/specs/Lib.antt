@@ -1,3 +1,4 @@
+pub mod Groups
 pub mod Lines
 pub mod Links
 pub mod Modules

@@ -1,11 +1,12 @@
 -- The lines that tell problems.
-use Rattle.std.specs.Prelude.{◌≡◌, ℕ, List, ◌++◌, codes}
+use Rattle.std.specs.Prelude.{◌≡◌, ℕ, List, ◌++◌, Option, None, codes}
 use Rattle.std.specs.List.{AllZip, flat_map}
 use Rattle.justfile_shown.specs.Columns.{line_at}
 use Rattle.justfile_token.specs.Excerpt.{excerpt_on}
 use Rattle.justfile_token.specs.Messages.{message_text}
 use Rattle.justfile_token.specs.declared.compile_error.CompileError.{CompileError}
-use Rattle.justfile_problems.specs.Errors.{IsErrorOf}
+use Rattle.justfile_token.specs.declared.name.Name.{Name}
+use Rattle.justfile_problems.specs.Errors.{IsErrorWithin}
 use Rattle.justfile_problems.specs.Circular.{IsErrorOfCircle}
 use Rattle.justfile_problems.specs.declared.circular.Circle.{Circle}
 use Rattle.justfile_problems.specs.declared.problem.Problem.{Problem}
@@ -30,8 +31,12 @@ pub record AddsLines (source : List ℕ) {X : Type 0} (IsErrorOfOne : X → Comp
   pub is : IsErrorOfOne one error
   pub added : new ≡ old ++ error_text source error
 
+-- problems with names that have the name of a module before them, or none
+abbrev pub TellProblemsWithin : (owner : Option Name) (source : List ℕ) → List Problem → (lines : List ℕ) → Type 0
+TellProblemsWithin owner source = TellErrors source (IsErrorWithin owner)
+
 abbrev pub TellProblems : (source : List ℕ) → List Problem → (lines : List ℕ) → Type 0
-TellProblems source = TellErrors source IsErrorOf
+TellProblems = TellProblemsWithin None
 
 abbrev pub TellCircles : (source : List ℕ) → List Circle → (lines : List ℕ) → Type 0
 TellCircles source = TellErrors source IsErrorOfCircle

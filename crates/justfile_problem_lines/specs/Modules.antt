@@ -1,98 +1,139 @@
--- The lines that tell what is wrong with the files of a module.
-use Rattle.std.specs.Prelude.{◌≡◌, ◌-◌, ◌||◌, ℕ, Bool, true, false, not, List, [], ◌∷◌, ◌++◌, IsPermutation, Option, None, Some, codes, length, map, slice_get, String, unwrap_or}
+-- The lines that tell what is wrong with the files of modules.
+use Rattle.std.specs.Prelude.{◌≡◌, ◌-◌, ◌&&◌, ◌||◌, ℕ, Bool, true, false, not, List, [], ◌∷◌, ◌++◌, IsPermutation, Option, None, Some, codes, cond, is_some, length, nat_eq, option_to_list, slice_get, String, unwrap_or}
 use Rattle.std.specs.Global.{Global}
 use Rattle.std.specs.List.{AllZip, concat, flat_map, list_any}
 use Rattle.std.specs.List.Sorted.{IsNonDecreasingBy}
 use Rattle.std.specs.Option.{option_map}
+use Rattle.std.specs.Str.{bytes_eq}
 use Rattle.circles.specs.FirstCircles.{AreFirstCircles}
 use Rattle.circles.specs.declared.circle.Circle.{Circle as Ring}
 use Rattle.circles.specs.declared.edge.Edge.{Edge}
 use Rattle.justfile_token.specs.Excerpt.{excerpt_text}
+use Rattle.justfile_token.specs.Name.{name_text}
+use Rattle.justfile_token.specs.declared.name.Name.{Name}
 use Rattle.justfile_token.specs.declared.token.Token.{Token}
 use Rattle.justfile_problems.specs.Circular.{AreCirclesOf}
 use Rattle.justfile_problems.specs.Problems.{joined, problems_within}
 use Rattle.justfile_problems.specs.declared.circular.Circle.{Circle}
 use Rattle.justfile_problems.specs.declared.facts.Definition.{Definition}
-use Rattle.justfile_problems.specs.declared.facts.Facts.{Facts}
 use Rattle.justfile_problems.specs.declared.facts.Link.{Link}
+use Rattle.justfile_problems.specs.declared.facts.Member.{Member}
 use Rattle.justfile_problems.specs.declared.facts.ModuleFile.{ModuleFile}
 use Rattle.justfile_problems.specs.declared.facts.Rules.{Rules}
+use Rattle.justfile_problems.specs.declared.facts.Suspect.{Suspect}
 use Rattle.justfile_problems.specs.declared.facts.Target.{Target}
 use Rattle.justfile_problems.specs.declared.facts.Target.TheVariants as targets
+use Rattle.justfile_problems.specs.declared.facts.Use.{Use}
 use Rattle.justfile_problems.specs.declared.problem.Problem.{Problem}
-use Rattle.justfile_problem_lines.specs.Lines.{TellCircles, TellProblems}
+use Rattle.justfile_problem_lines.specs.Groups.{first_files, first_of, group_after, is_among}
+use Rattle.justfile_problem_lines.specs.Lines.{TellCircles, TellProblemsWithin}
 use Rattle.justfile_problem_lines.specs.Links.{all_links}
 
--- ---- where imports lead
+-- ---- where imports and modules lead
 
-abbrev pub is_file : Target → Bool
-is_file (targets.File index) = true
-is_file targets.Nothing = false
-is_file targets.Unknown = false
+-- whether it is known which file this is, or that there is none, which need not be
+abbrev pub is_settled : (optional : Bool) → Target → Bool
+is_settled optional (targets.File index) = true
+is_settled optional targets.Nothing = optional
+is_settled optional targets.Unknown = false
 
-abbrev pub leads_to_file : Link → Bool
-leads_to_file l = is_file l.target
+-- whether an import of one of the files with these indices may lead to a file that isn't known
+abbrev pub leads_to_more : (group : List ℕ) → Link → Bool
+leads_to_more group l = is_among group l.from && not (is_some l.submodule) && not (is_settled l.optional l.target)
 
--- whether an import leads to a file that isn't known
-abbrev pub may_be_more : List Link → Bool
-may_be_more links = list_any (λ (l : Link). not (leads_to_file l)) links
+abbrev pub may_be_more : List Link → (group : List ℕ) → Bool
+may_be_more links group = list_any (leads_to_more group) links
 
-abbrev pub no_file_text : Token → List ℕ
-no_file_text t = codes "error: could not find source file for import\n" ++ excerpt_text t ++ codes "\n"
+abbrev pub no_import_text : Token → List ℕ
+no_import_text t = codes "error: could not find source file for import\n" ++ excerpt_text t ++ codes "\n"
 
--- an import that leads to no file, unless it need not
+abbrev pub no_module_text : (name : List ℕ) → Token → List ℕ
+no_module_text name t = codes "error: could not find source file for module `" ++ (name ++ (codes "`\n" ++ (excerpt_text t ++ codes "\n")))
+
+abbrev pub no_file_text : (owner : Option Name) → Token → List ℕ
+no_file_text None t = no_import_text t
+no_file_text (Some name) t = no_module_text (name_text name) name.token
+
+-- an import or a module that leads to no file, unless it need not
 abbrev pub target_lines : Link → (optional : Bool) → Target → List ℕ
-target_lines l false targets.Nothing = no_file_text l.token
+target_lines l false targets.Nothing = no_file_text l.submodule l.token
 target_lines l optional target = []
 
 abbrev pub link_lines : Link → List ℕ
 link_lines l = target_lines l l.optional l.target
 
+-- ---- lines of several things, one after the other
+
+pub record TellEach {X : Type 0} (Tells : X → List ℕ → Type 0) (these : List X) (lines : List ℕ) : Type 0 where
+  pub parts : List (List ℕ)
+  pub each : AllZip Tells these parts
+  pub joined : lines ≡ concat parts
+
+-- those of something, if there is one
+abbrev pub TellAny : {X : Type 0} → (Tells : X → List ℕ → Type 0) → Option X → (lines : List ℕ) → Type 0
+TellAny Tells None lines = lines ≡ []
+TellAny Tells (Some x) lines = Tells x lines
+
 -- ---- the problems of files
 
-abbrev pub definitions_of : ModuleFile → List Definition
-definitions_of f = f.facts.definitions.items
+-- what a file defines, if there is one
+abbrev pub definitions_of : Option ModuleFile → List Definition
+definitions_of None = []
+definitions_of (Some f) = f.facts.definitions.items
 
--- those of all files, unless one is alone: it shares them with none
-abbrev pub definitions_in : List ModuleFile → List Definition
-definitions_in [] = []
-definitions_in (f ∷ []) = []
-definitions_in (f ∷ g ∷ files) = flat_map definitions_of (f ∷ g ∷ files)
+module _ (files : List ModuleFile) where
+  -- what the file with an index defines
+  abbrev pub definitions_at : (index : ℕ) → List Definition
+  definitions_at index = definitions_of (slice_get files index)
 
-abbrev pub rules_in : (more : Bool) → List ModuleFile → Rules
-rules_in more files = joined more (map (λ (f : ModuleFile). f.facts.rules) files)
+  -- what the file with an index allows
+  abbrev pub rule_at : (index : ℕ) → Option Rules
+  rule_at index = option_map (λ (f : ModuleFile). f.facts.rules) (slice_get files index)
 
--- all problems of a file of a module with these definitions, in the order of its text
-pub record TellPart (rules : Rules) (all : List Definition) (source : List ℕ) (facts : Facts) (lines : List ℕ) : Type 0 where
+  abbrev pub rules_at : (index : ℕ) → List Rules
+  rules_at index = option_to_list (rule_at index)
+
+  -- what the files with these indices define
+  abbrev pub all_definitions : (group : List ℕ) → List Definition
+  all_definitions group = flat_map definitions_at group
+
+  -- the same, unless one is alone: it shares that with none
+  abbrev pub shared_definitions : (group : List ℕ) → List Definition
+  shared_definitions [] = []
+  shared_definitions (index ∷ []) = []
+  shared_definitions (index ∷ other ∷ others) = all_definitions (index ∷ other ∷ others)
+
+  abbrev pub rules_in : (more : Bool) → (group : List ℕ) → Rules
+  rules_in more group = joined more (flat_map rules_at group)
+
+-- all problems with these uses and the like of a file of a module, in the order of its text; the uses have the name of another module before theirs, or none
+pub record TellJudged (owner : Option Name) (rules : Rules) (all own : List Definition) (uses : List Use) (suspects : List Suspect) (source lines : List ℕ) : Type 0 where
   pub problems : List Problem
-  pub are : IsPermutation (problems_within rules all facts.definitions.items facts.uses.items facts.suspects.items) problems
+  pub are : IsPermutation (problems_within rules all own uses suspects) problems
   pub in_order : IsNonDecreasingBy (λ (p : Problem). p.token.offset) problems
-  pub told : TellProblems source problems lines
+  pub told : TellProblemsWithin owner source problems lines
 
--- those of all its files, one after the other
-pub record TellParts (rules : Rules) (all : List Definition) (files : List ModuleFile) (lines : List ℕ) : Type 0 where
-  pub parts : List (List ℕ)
-  pub each : AllZip (λ (f : ModuleFile) part. TellPart rules all f.source.now f.facts part) files parts
-  pub joined : lines ≡ concat parts
+-- all problems of a file of a module with these definitions
+abbrev pub TellPart : (rules : Rules) (all : List Definition) → ModuleFile → (lines : List ℕ) → Type 0
+TellPart rules all f lines = TellJudged None rules all f.facts.definitions.items f.facts.uses.items f.facts.suspects.items f.source.now lines
+
+-- those of the files with these indices, one after the other
+abbrev pub TellParts : (rules : Rules) (all : List Definition) → List ModuleFile → (group : List ℕ) → (lines : List ℕ) → Type 0
+TellParts rules all files group lines = TellEach (λ (index : ℕ) part. TellAny (TellPart rules all) (slice_get files index) part) group lines
 
 -- ---- circles
 
-pub record TellCirclesOfFile (source : List ℕ) (facts : Facts) (lines : List ℕ) : Type 0 where
+pub record TellCirclesOfFile (f : ModuleFile) (lines : List ℕ) : Type 0 where
   pub circles : List Circle
-  pub are : AreCirclesOf facts.definitions.items facts.uses.items circles
-  pub told : TellCircles source circles lines
-
--- those of the first file
-abbrev pub TellCirclesOf : List ModuleFile → (lines : List ℕ) → Type 0
-TellCirclesOf [] lines = lines ≡ []
-TellCirclesOf (f ∷ files) lines = TellCirclesOfFile f.source.now f.facts lines
+  pub are : AreCirclesOf f.facts.definitions.items f.facts.uses.items circles
+  pub told : TellCircles f.source.now circles lines
 
 abbrev pub step_to : (from : ℕ) → Target → List Edge
 step_to from (targets.File index) = record { from = from; to = index } ∷ []
 step_to from targets.Nothing = []
 step_to from targets.Unknown = []
 
--- the step between files that an import is
+-- the step between files that an import or a module is
 abbrev pub edges_of : Link → List Edge
 edges_of l = step_to l.from l.target
 
@@ -119,23 +160,75 @@ last_step ring = unwrap_or (slice_get ring.others.items (length ring.others.item
 abbrev pub ring_lines : List ModuleFile → List Edge → Ring → List ℕ
 ring_lines files edges ring = edge_lines files (slice_get edges (last_step ring))
 
--- the circles of imports: some exactly if a file imports itself, directly or through others
+-- the circles of imports and modules: some exactly if a file leads to itself, directly or through others
 pub record TellImports (files : List ModuleFile) (links : List Link) (lines : List ℕ) : Type 0 where
   pub rings : List Ring
   pub are : AreFirstCircles (edges_in links) rings
   pub told : lines ≡ flat_map (ring_lines files (edges_in links)) rings
 
+-- ---- uses of what modules define
+
+-- a use, if it is of what a module with this name defines
+abbrev pub use_of : (owner : List ℕ) → Member → List Use
+use_of owner m = cond (bytes_eq (name_text m.owner) owner) (m.used ∷ []) []
+
+-- all problems with the uses by a file of what a module with this name defines: they are judged as if that module had them
+abbrev pub TellMembers : (rules : Rules) (all : List Definition) (owner : Name) → ModuleFile → (lines : List ℕ) → Type 0
+TellMembers rules all owner f lines = TellJudged (Some owner) rules all [] (flat_map (use_of (name_text owner)) f.facts.members.items) [] f.source.now lines
+
+-- those of the files with these indices
+abbrev pub TellMembersIn : (rules : Rules) (all : List Definition) (owner : Name) → List ModuleFile → (group : List ℕ) → (lines : List ℕ) → Type 0
+TellMembersIn rules all owner files group lines = TellEach (λ (index : ℕ) part. TellAny (TellMembers rules all owner) (slice_get files index) part) group lines
+
+-- the first file of a module that one of the files with these indices has
+abbrev pub first_within : (group : List ℕ) → Link → Option ℕ
+first_within group l = cond (is_among group l.from) (first_of l) None
+
+module _ (files : List ModuleFile) (links : List Link) (group : List ℕ) where
+  -- the same, where the module begins with this file
+  abbrev pub TellMembersOf : (owner : Name) → (first : ℕ) → (lines : List ℕ) → Type 0
+  TellMembersOf owner first lines =
+      let inner = group_after links (length files) first in
+      TellMembersIn (rules_in files (may_be_more links inner) inner) (all_definitions files inner) owner files group lines
+
+  abbrev pub TellMembersBy : (owner : Option Name) → (first : Option ℕ) → (lines : List ℕ) → Type 0
+  TellMembersBy None first lines = lines ≡ []
+  TellMembersBy (Some owner) first lines = TellAny (TellMembersOf owner) first lines
+
+  -- those of a module, if these files have it
+  abbrev pub TellMembersAt : Link → (lines : List ℕ) → Type 0
+  TellMembersAt l lines = TellMembersBy l.submodule (first_within group l) lines
+
+  -- those of all modules that these files have
+  abbrev pub TellAllMembers : (lines : List ℕ) → Type 0
+  TellAllMembers lines = TellEach TellMembersAt links lines
+
 -- ---- all
 
-pub record TellLinked (imported : Bool) (files : List ModuleFile) (links : List Link) (lines : List ℕ) : Type 0 where
+-- all that is wrong with a module that has the files with these indices, of which this is the first; `imported` is whether yet another file may import that
+pub record TellModuleOf (imported : Bool) (files : List ModuleFile) (links : List Link) (first : ℕ) (group : List ℕ) (lines : List ℕ) : Type 0 where
   pub of_parts : List ℕ
+  pub of_members : List ℕ
   pub of_circles : List ℕ
-  pub of_imports : List ℕ
-  pub parts_told : TellParts (rules_in (imported || may_be_more links) files) (definitions_in files) files of_parts
-  pub circles_told : TellCirclesOf files of_circles
-  pub imports_told : TellImports files links of_imports
-  pub are : lines ≡ flat_map link_lines links ++ of_parts ++ of_circles ++ of_imports
+  pub parts_told : TellParts (rules_in files (imported || may_be_more links group) group) (shared_definitions files group) files group of_parts
+  pub members_told : TellAllMembers files links group of_members
+  pub circles_told : TellAny TellCirclesOfFile (slice_get files first) of_circles
+  pub are : lines ≡ of_parts ++ of_members ++ of_circles
 
--- all that is wrong with a file, the first one, and those that it imports
-abbrev pub TellModule : (imported : Bool) → List ModuleFile → (missing : List (String Global)) → (lines : List ℕ) → Type 0
-TellModule imported files missing lines = TellLinked imported files (all_links files missing) lines
+abbrev pub TellModule : (imported : Bool) → List ModuleFile → List Link → (first : ℕ) → (lines : List ℕ) → Type 0
+TellModule imported files links first lines = TellModuleOf imported files links first (group_after links (length files) first) lines
+
+-- that of the modules that begin with these files; only the first of all may be imported
+abbrev pub TellModules : (imported : Bool) → List ModuleFile → List Link → (first : List ℕ) → (lines : List ℕ) → Type 0
+TellModules imported files links first lines = TellEach (λ (index : ℕ) part. TellModule (imported && nat_eq index 0) files links index part) first lines
+
+pub record TellLinked (imported : Bool) (files : List ModuleFile) (links : List Link) (lines : List ℕ) : Type 0 where
+  pub of_modules : List ℕ
+  pub of_imports : List ℕ
+  pub modules_told : TellModules imported files links (first_files links) of_modules
+  pub imports_told : TellImports files links of_imports
+  pub are : lines ≡ flat_map link_lines links ++ of_modules ++ of_imports
+
+-- all that is wrong with a file, the first one, and those that it leads to
+abbrev pub TellFilesOf : (imported : Bool) → List ModuleFile → (missing : List (String Global)) → (lines : List ℕ) → Type 0
+TellFilesOf imported files missing lines = TellLinked imported files (all_links files missing) lines

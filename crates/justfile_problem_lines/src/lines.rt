@@ -1,12 +1,12 @@
 //! The lines that tell problems.
 ghost use Rattle.std.specs.Prelude.{◌≡◌, ◌++◌, IfOk, OnOk, string_bytes};
 ghost use Rattle.justfile_problems.specs.Circular.{IsErrorOfCircle};
-ghost use Rattle.justfile_problems.specs.Errors.{IsErrorOf};
-ghost use Rattle.justfile_problem_lines.specs.Lines.{AddsLines, TellAll, TellCircles, TellProblems, error_on, error_text};
+ghost use Rattle.justfile_problems.specs.Errors.{IsErrorWithin};
+ghost use Rattle.justfile_problem_lines.specs.Lines.{AddsLines, TellAll, TellCircles, TellProblems, TellProblemsWithin, error_on, error_text};
 
 use crate::cursor::LineCursor;
 use justfile_problems::{Circle, Problem};
-use justfile_token::{CompileError, Excerpt};
+use justfile_token::{CompileError, Excerpt, Name};
 use std::alloc::{AllocError, Global};
 
 /// Returns the lines that tell problems, and then those that tell circles. Their lines are those of
@@ -52,26 +52,40 @@ pub fn problem_lines(
 ) -> Result<String, AllocError>
     ensures { IfOk result (λ lines. TellProblems source.now problems.now (string_bytes lines)) }
 {
+    problem_lines_within(alloc, source, None, problems)
+}
+
+/// Returns the same, where the names that aren't known have the name of a module before them, or none.
+pub(crate) fn problem_lines_within<'src>(
+    alloc: Global,
+    source: &str,
+    owner: Option<Name<'src>>,
+    problems: &[Problem<'src>],
+) -> Result<String, AllocError>
+    ensures { IfOk result (λ lines.
+        TellProblemsWithin owner.entry source.now problems.now (string_bytes lines)) }
+{
     let mut cursor = LineCursor::new(source);
     let mut lines = String::new(alloc);
     for problem in problems {
-        push_problem(alloc, problem, &mut cursor, &mut lines)?;
+        push_problem(alloc, owner, problem, &mut cursor, &mut lines)?;
     }
     Ok(lines)
 }
 
 /// Appends the lines that tell a problem.
-fn push_problem(
+fn push_problem<'src>(
     alloc: Global,
-    problem: &Problem<'_>,
+    owner: Option<Name<'src>>,
+    problem: &Problem<'src>,
     cursor: &mut LineCursor<'_>,
     lines: &mut String,
 ) -> Result<(), AllocError>
     ensures source { cursor.new.source.now ≡ cursor.old.source.now }
-    ensures adds { OnOk result (AddsLines cursor.old.source.now IsErrorOf problem.now
-        (string_bytes lines.old) (string_bytes lines.new)) }
+    ensures adds { OnOk result (AddsLines cursor.old.source.now
+        (IsErrorWithin owner.entry) problem.now (string_bytes lines.old) (string_bytes lines.new)) }
 {
-    let error = problem.error(alloc)?;
+    let error = problem.error_within(alloc, owner)?;
     push_error(alloc, &error, cursor, lines)
 }
 

@@ -1,10 +1,10 @@
-//! Where the imports of a module's files lead.
+//! Where imports and modules lead.
 ghost use Rattle.std.specs.Prelude.{◌≡◌, ◌++◌, IfOk, OnOk, map, string_bytes};
 ghost use Rattle.std.specs.List.{flat_map, list_any, position};
-ghost use Rattle.justfile_problem_lines.specs.Links.{all_links, file_links, is_at, is_text, link_of, paths_at, target_at, target_of, without_file};
+ghost use Rattle.justfile_problem_lines.specs.Links.{all_links, file_links, is_at, is_text, link_of, links_from, located, module_link, paths_at, target_at, target_of, without_file};
 
 use justfile_files::path::path_beside;
-use justfile_problems::{Import, Link, ModuleFile, Target};
+use justfile_problems::{Import, Link, Located, LocatedModule, ModuleFile, Target};
 use std::alloc::{AllocError, Global};
 
 /// Returns the paths of the files to which the imports lead of the file at a path, where that is known.
@@ -45,8 +45,8 @@ fn push_path(
     Ok(())
 }
 
-/// Returns where the imports of files lead, one file after the other. At the paths `missing` there is
-/// no file.
+/// Returns where the imports and the modules of files lead, one file after the other. At the paths
+/// `missing` there is no file.
 #[tactic(auto, using(std::proofs::lemmas::List::flat_map_more, std::proofs::lemmas::List::take_more))]
 pub(crate) fn all_links<'src>(
     alloc: Global,
@@ -62,7 +62,7 @@ pub(crate) fn all_links<'src>(
     Ok(links)
 }
 
-/// Appends where the imports of a file lead.
+/// Appends where the imports and the modules of a file lead.
 fn push_links<'src>(
     alloc: Global,
     files: &[ModuleFile<'src>],
@@ -74,12 +74,78 @@ fn push_links<'src>(
         (links.new.items ≡ links.old.items ++ file_links files.now missing.now file.now) }
 {
     let from = index_in(files, file.path).unwrap_or(0);
-    push_from(alloc, files, missing, from, file.path, &file.imports, links)
+    push_links_from(alloc, files, missing, from, file, links)
+}
+
+/// Appends where the imports and the modules of a file lead that has this index.
+fn push_links_from<'src>(
+    alloc: Global,
+    files: &[ModuleFile<'src>],
+    missing: &[String],
+    from: usize,
+    file: &ModuleFile<'src>,
+    links: &mut Vec<Link<'src>>,
+) -> Result<(), AllocError>
+    ensures { OnOk result (links.new.items
+        ≡ links.old.items ++ links_from files.now missing.now from file.now) }
+{
+    push_imports(alloc, files, missing, from, file.path, &file.imports, links)?;
+    push_modules(files, missing, from, &file.modules, links)
+}
+
+/// Appends where these modules lead of the file with this index.
+#[tactic(auto, using(std::proofs::lemmas::List::flat_map_more, std::proofs::lemmas::List::take_more))]
+fn push_modules<'src>(
+    files: &[ModuleFile<'src>],
+    missing: &[String],
+    from: usize,
+    modules: &[LocatedModule<'src>],
+    links: &mut Vec<Link<'src>>,
+) -> Result<(), AllocError>
+    ensures { OnOk result (links.new.items
+        ≡ links.old.items ++ flat_map (module_link files.now missing.now from) modules.now) }
+{
+    for submodule in modules {
+        push_module(files, missing, from, submodule, links)?;
+    }
+    Ok(())
+}
+
+/// Appends where a module leads of the file with this index.
+fn push_module<'src>(
+    files: &[ModuleFile<'src>],
+    missing: &[String],
+    from: usize,
+    submodule: &LocatedModule<'src>,
+    links: &mut Vec<Link<'src>>,
+) -> Result<(), AllocError>
+    ensures { OnOk result (links.new.items
+        ≡ links.old.items ++ module_link files.now missing.now from submodule.now) }
+{
+    links.push(Link {
+        from,
+        target: located(files, missing, &submodule.file),
+        optional: submodule.optional,
+        submodule: Some(submodule.name),
+        token: submodule.name.token,
+    })?;
+    Ok(())
+}
+
+/// Returns where the file of a module is.
+fn located(files: &[ModuleFile<'_>], missing: &[String], file: &Located) -> Target
+    ensures { result ≡ located files.now missing.now file.now }
+{
+    match file {
+        Located::At(path) => target_at(files, missing, path.as_str()),
+        Located::Nowhere => Target::Nothing,
+        Located::Unknown => Target::Unknown,
+    }
 }
 
 /// Appends where these imports lead of the file with this index and path.
 #[tactic(auto, using(std::proofs::lemmas::List::flat_map_more, std::proofs::lemmas::List::take_more))]
-fn push_from<'src>(
+fn push_imports<'src>(
     alloc: Global,
     files: &[ModuleFile<'src>],
     missing: &[String],
@@ -114,6 +180,7 @@ fn push_link<'src>(
         from,
         target: target_of(alloc, files, missing, path, import)?,
         optional: import.optional,
+        submodule: None,
         token: import.token,
     })?;
     Ok(())

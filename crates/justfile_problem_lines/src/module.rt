@@ -1,184 +1,220 @@
-//! The lines that tell what is wrong with the files of a module.
-ghost use Rattle.std.specs.Prelude.{◌≡◌, ◌++◌, IfOk, OnOk, string_bytes};
-ghost use Rattle.std.specs.List.{flat_map};
-ghost use Rattle.justfile_problem_lines.specs.Modules.{TellCirclesOf, TellCirclesOfFile, TellImports, TellLinked, TellModule, TellPart, TellParts, circular_text, definitions_in, definitions_of, edge_text, edges_in, edges_of, last_step, leads_to_file, link_lines, may_be_more, name_at, no_file_text, ring_lines, rules_in};
+//! The lines that tell what is wrong with a module.
+ghost use Rattle.std.specs.Prelude.{◌≡◌, ◌++◌, IfOk, OnOk, option_copied, option_to_list, slice_get, string_bytes};
+ghost use Rattle.justfile_problem_lines.specs.Modules.{TellAny, TellCirclesOfFile, TellModule, TellModuleOf, TellPart, TellParts, all_definitions, definitions_at, definitions_of, is_settled, leads_to_more, may_be_more, rule_at, rules_in, shared_definitions};
 
+use crate::groups::{group_of, is_among};
 use crate::lines::{append, circle_lines, problem_lines};
-use crate::links::all_links;
-use circles::{Edge, find_circles};
+use crate::members::all_member_lines;
 use justfile_problems::{
-    Definition, Facts, Link, ModuleFile, Rules, Target, circles_of, joined, problems_within,
+    Definition, Link, ModuleFile, Rules, Target, circles_of, joined, problems_within,
 };
-use justfile_token::Token;
 use std::alloc::{AllocError, Global};
 
-/// Returns the lines that tell what is wrong with a file, the first one, and those that it imports:
-/// first the imports that lead to no file, then each file's problems, the circles of the first one,
-/// and the circles of imports. `imported` is whether yet another file may import the first one, and
-/// at the paths `missing` there is no file. If it may be imported, or if an import leads to none of
-/// the files, then names that they lack aren't wrong.
-///
-/// # Errors
-///
-/// `AllocError` if memory runs out.
-pub fn module_lines(
-    alloc: Global,
-    imported: bool,
-    files: &[ModuleFile<'_>],
-    missing: &[String],
-) -> Result<String, AllocError>
-    ensures { IfOk result
-        (λ lines. TellModule imported files.now missing.now (string_bytes lines)) }
-{
-    let links = all_links(alloc, files, missing)?;
-    linked_lines(alloc, imported, files, &links)
-}
-
-/// Returns these lines, where the imports are these.
-fn linked_lines(
+/// Returns the lines that tell what is wrong with the module that begins with the file with this
+/// index. `imported` is whether yet another file may import that.
+pub(crate) fn module_lines(
     alloc: Global,
     imported: bool,
     files: &[ModuleFile<'_>],
     links: &[Link<'_>],
+    first: usize,
 ) -> Result<String, AllocError>
-    ensures { IfOk result
-        (λ lines. TellLinked imported files.now links.now (string_bytes lines)) }
+    ensures { IfOk result (λ lines.
+        TellModule imported files.now links.now first (string_bytes lines)) }
 {
-    let mut lines = missing_lines(alloc, links)?;
-    let parts = part_lines(alloc, imported || may_be_more(links), files)?;
-    append(&parts, &mut lines)?;
-    let circles = first_circles(alloc, files)?;
+    let group = group_of(alloc, links, files.len(), first)?;
+    group_lines(alloc, imported, files, links, first, &group)
+}
+
+/// Returns these lines, where the module has the files with these indices.
+fn group_lines(
+    alloc: Global,
+    imported: bool,
+    files: &[ModuleFile<'_>],
+    links: &[Link<'_>],
+    first: usize,
+    group: &[usize],
+) -> Result<String, AllocError>
+    ensures { IfOk result (λ lines.
+        TellModuleOf imported files.now links.now first group.now (string_bytes lines)) }
+{
+    let more = imported || may_be_more(links, group);
+    let mut lines = part_lines(alloc, more, files, group)?;
+    let members = all_member_lines(alloc, files, links, group)?;
+    append(&members, &mut lines)?;
+    let circles = circles_at(alloc, files, first)?;
     append(&circles, &mut lines)?;
-    let imports = import_circles(alloc, files, links)?;
-    append(&imports, &mut lines)?;
     Ok(lines)
 }
 
-/// Whether an import leads to a file.
-fn leads_to_file(link: &Link<'_>) -> bool
-    ensures { result ≡ leads_to_file link.now }
+/// Whether it is known to which file an import leads, or that there is none, which need not be.
+fn is_settled(optional: bool, target: Target) -> bool
+    ensures { result ≡ is_settled optional target }
 {
-    match link.target {
+    match target {
         Target::File(_) => true,
-        Target::Nothing | Target::Unknown => false,
+        Target::Nothing => optional,
+        Target::Unknown => false,
     }
 }
 
-/// Whether an import leads to a file that isn't known.
-fn may_be_more(links: &[Link<'_>]) -> bool
-    ensures { result ≡ may_be_more links.now }
+/// Whether an import of one of the files with these indices may lead to a file that isn't known.
+fn leads_to_more(group: &[usize], link: &Link<'_>) -> bool
+    ensures { result ≡ leads_to_more group.now link.now }
 {
-    links.iter().any(|link| !leads_to_file(link))
+    let settled = is_settled(link.optional, link.target);
+    is_among(group, link.from) && link.submodule.is_none() && !settled
 }
 
-/// Returns the lines that tell imports that should lead to a file and don't.
-#[tactic(auto, using(std::proofs::lemmas::List::flat_map_more, std::proofs::lemmas::List::take_more))]
-fn missing_lines(alloc: Global, links: &[Link<'_>]) -> Result<String, AllocError>
-    ensures { IfOk result (λ lines. string_bytes lines ≡ flat_map link_lines links.now) }
+/// Whether one of these imports does.
+pub(crate) fn may_be_more(links: &[Link<'_>], group: &[usize]) -> bool
+    ensures { result ≡ may_be_more links.now group.now }
 {
-    let mut lines = String::new(alloc);
-    for link in links {
-        push_missing(alloc, link, &mut lines)?;
-    }
-    Ok(lines)
+    links.iter().any(|link| leads_to_more(group, link))
 }
 
-/// Appends the lines that tell an import, if it should lead to a file and doesn't.
-fn push_missing(alloc: Global, link: &Link<'_>, lines: &mut String) -> Result<(), AllocError>
-    ensures { OnOk result (string_bytes lines.new ≡ string_bytes lines.old ++ link_lines link.now) }
-{
-    if link.optional {
-        return Ok(());
-    }
-    match link.target {
-        Target::Nothing => push_no_file(alloc, link.token, lines),
-        Target::File(_) | Target::Unknown => Ok(()),
-    }
-}
-
-/// Appends the lines that tell that there is no file at the path with this token.
-fn push_no_file(alloc: Global, token: Token<'_>, lines: &mut String) -> Result<(), AllocError>
-    ensures { OnOk result
-        (string_bytes lines.new ≡ string_bytes lines.old ++ no_file_text token.entry) }
-{
-    let text = format!(in alloc; "error: could not find source file for import\n{token}\n")?;
-    append(&text, lines)
-}
-
-/// Appends definitions.
-fn push_definitions<'src>(
-    file: &ModuleFile<'src>,
+/// Appends what a file defines, if there is one.
+fn push_definitions_of<'src>(
+    file: Option<&ModuleFile<'src>>,
     all: &mut Vec<Definition<'src>>,
 ) -> Result<(), AllocError>
-    ensures { OnOk result (all.new.items ≡ all.old.items ++ definitions_of file.now) }
+    ensures { OnOk result
+        (all.new.items ≡ all.old.items ++ definitions_of (option_copied file.entry)) }
 {
-    all.extend_from_slice(&file.facts.definitions)
+    match file {
+        Some(file) => all.extend_from_slice(&file.facts.definitions),
+        None => Ok(()),
+    }
 }
 
-/// Returns the definitions of files, one file after the other.
+/// Appends what the file with an index defines.
+fn push_definitions<'src>(
+    files: &[ModuleFile<'src>],
+    index: usize,
+    all: &mut Vec<Definition<'src>>,
+) -> Result<(), AllocError>
+    ensures { OnOk result (all.new.items ≡ all.old.items ++ definitions_at files.now index) }
+{
+    push_definitions_of(files.get(index), all)
+}
+
+/// Returns what the files with these indices define, one file after the other.
 #[tactic(auto, using(std::proofs::lemmas::List::flat_map_more, std::proofs::lemmas::List::take_more))]
-fn all_definitions<'src>(
+pub(crate) fn all_definitions<'src>(
     alloc: Global,
     files: &[ModuleFile<'src>],
+    group: &[usize],
 ) -> Result<Vec<Definition<'src>>, AllocError>
-    ensures { IfOk result (λ all. all.items ≡ flat_map definitions_of files.now) }
+    ensures { IfOk result (λ all. all.items ≡ all_definitions files.now group.now) }
 {
     let mut all = Vec::new(alloc);
-    for file in files {
-        push_definitions(file, &mut all)?;
+    for index in group {
+        push_definitions(files, *index, &mut all)?;
     }
     Ok(all)
 }
 
-/// Returns the definitions that files share: none if there is one alone.
-fn definitions_in<'src>(
+/// Returns the definitions that the files with these indices share: none if there is one alone.
+fn shared_definitions<'src>(
     alloc: Global,
     files: &[ModuleFile<'src>],
+    group: &[usize],
 ) -> Result<Vec<Definition<'src>>, AllocError>
-    ensures { IfOk result (λ all. all.items ≡ definitions_in files.now) }
+    ensures { IfOk result (λ all. all.items ≡ shared_definitions files.now group.now) }
 {
-    match files {
+    match group {
         [] | [_] => Ok(Vec::new(alloc)),
-        [_, _, ..] => all_definitions(alloc, files),
+        [_, _, ..] => all_definitions(alloc, files, group),
     }
 }
 
-/// Returns what files allow together. Other ones may define names, or not.
-fn rules_in(alloc: Global, more: bool, files: &[ModuleFile<'_>]) -> Result<Rules, AllocError>
-    ensures { IfOk result (λ rules. rules ≡ rules_in more files.now) }
+/// Returns what the file with an index allows.
+fn rule_at(files: &[ModuleFile<'_>], index: usize) -> Option<Rules>
+    ensures { result ≡ rule_at files.now index }
+{
+    match files.get(index) {
+        Some(file) => Some(file.facts.rules),
+        None => None,
+    }
+}
+
+/// Appends rules, if there are any.
+fn push_rules(found: Option<Rules>, rules: &mut Vec<Rules>) -> Result<(), AllocError>
+    ensures { OnOk result (rules.new.items ≡ rules.old.items ++ option_to_list found) }
+{
+    if let Some(found) = found {
+        rules.push(found)?;
+    }
+    Ok(())
+}
+
+/// Returns what the files with these indices allow together. Other ones may define names, or not.
+#[tactic(auto, using(std::proofs::lemmas::List::flat_map_more, std::proofs::lemmas::List::take_more))]
+pub(crate) fn rules_in(
+    alloc: Global,
+    more: bool,
+    files: &[ModuleFile<'_>],
+    group: &[usize],
+) -> Result<Rules, AllocError>
+    ensures { IfOk result (λ rules. rules ≡ rules_in files.now more group.now) }
 {
     let mut rules = Vec::new(alloc);
-    for file in files {
-        rules.push(file.facts.rules)?;
+    for index in group {
+        push_rules(rule_at(files, *index), &mut rules)?;
     }
     Ok(joined(&rules, more))
 }
 
-/// Returns the lines that tell the problems of files, which are a module.
-fn part_lines(alloc: Global, more: bool, files: &[ModuleFile<'_>]) -> Result<String, AllocError>
-    ensures { IfOk result (λ lines. TellParts (rules_in more files.now)
-        (definitions_in files.now) files.now (string_bytes lines)) }
+/// Returns the lines that tell the problems of the files with these indices, which are a module.
+fn part_lines(
+    alloc: Global,
+    more: bool,
+    files: &[ModuleFile<'_>],
+    group: &[usize],
+) -> Result<String, AllocError>
+    ensures { IfOk result (λ lines. TellParts (rules_in files.now more group.now)
+        (shared_definitions files.now group.now) files.now group.now (string_bytes lines)) }
 {
-    let rules = rules_in(alloc, more, files)?;
-    let all = definitions_in(alloc, files)?;
-    parts(alloc, rules, &all, files)
+    let rules = rules_in(alloc, more, files, group)?;
+    let all = shared_definitions(alloc, files, group)?;
+    parts(alloc, rules, &all, files, group)
 }
 
-/// Returns the lines that tell the problems of files of a module that has these definitions.
+/// Returns the lines that tell the problems of the files with these indices of a module that has these
+/// definitions.
 fn parts<'src>(
     alloc: Global,
     rules: Rules,
     all: &[Definition<'src>],
     files: &[ModuleFile<'src>],
+    group: &[usize],
 ) -> Result<String, AllocError>
-    ensures { IfOk result (λ lines. TellParts rules all.now files.now (string_bytes lines)) }
+    ensures { IfOk result
+        (λ lines. TellParts rules all.now files.now group.now (string_bytes lines)) }
 {
     let mut lines = String::new(alloc);
-    for file in files {
-        let part = part(alloc, rules, all, file.source, &file.facts)?;
+    for index in group {
+        let part = part_at(alloc, rules, all, files, *index)?;
         append(&part, &mut lines)?;
     }
     Ok(lines)
+}
+
+/// Returns the lines that tell the problems of the file with an index.
+fn part_at<'src>(
+    alloc: Global,
+    rules: Rules,
+    all: &[Definition<'src>],
+    files: &[ModuleFile<'src>],
+    index: usize,
+) -> Result<String, AllocError>
+    ensures { IfOk result (λ lines.
+        TellAny (TellPart rules all.now) (slice_get files.now index) (string_bytes lines)) }
+{
+    match files.get(index) {
+        Some(file) => part(alloc, rules, all, file),
+        None => Ok(String::new(alloc)),
+    }
 }
 
 /// Returns the lines that tell the problems of a file of a module.
@@ -186,160 +222,36 @@ fn part<'src>(
     alloc: Global,
     rules: Rules,
     all: &[Definition<'src>],
-    source: &'src str,
-    facts: &Facts<'src>,
+    file: &ModuleFile<'src>,
 ) -> Result<String, AllocError>
-    ensures { IfOk result
-        (λ lines. TellPart rules all.now source.now facts.now (string_bytes lines)) }
+    ensures { IfOk result (λ lines. TellPart rules all.now file.now (string_bytes lines)) }
 {
     let problems = problems_within(
         alloc,
         rules,
         all,
-        &facts.definitions,
-        &facts.uses,
-        &facts.suspects,
+        &file.facts.definitions,
+        &file.facts.uses,
+        &file.facts.suspects,
     )?;
-    problem_lines(alloc, source, &problems)
+    problem_lines(alloc, file.source, &problems)
 }
 
-/// Returns the lines that tell the circles of the first file.
-fn first_circles(alloc: Global, files: &[ModuleFile<'_>]) -> Result<String, AllocError>
-    ensures { IfOk result (λ lines. TellCirclesOf files.now (string_bytes lines)) }
+/// Returns the lines that tell the circles of the file with an index.
+fn circles_at(alloc: Global, files: &[ModuleFile<'_>], index: usize) -> Result<String, AllocError>
+    ensures { IfOk result
+        (λ lines. TellAny TellCirclesOfFile (slice_get files.now index) (string_bytes lines)) }
 {
-    let Some(file) = files.first() else {
-        return Ok(String::new(alloc));
-    };
-    circles_in(alloc, file.source, &file.facts)
+    match files.get(index) {
+        Some(file) => circles_in(alloc, file),
+        None => Ok(String::new(alloc)),
+    }
 }
 
 /// Returns the lines that tell the circles of a file.
-fn circles_in<'src>(
-    alloc: Global,
-    source: &'src str,
-    facts: &Facts<'src>,
-) -> Result<String, AllocError>
-    ensures { IfOk result (λ lines. TellCirclesOfFile source.now facts.now (string_bytes lines)) }
+fn circles_in(alloc: Global, file: &ModuleFile<'_>) -> Result<String, AllocError>
+    ensures { IfOk result (λ lines. TellCirclesOfFile file.now (string_bytes lines)) }
 {
-    let circles = circles_of(alloc, &facts.definitions, &facts.uses)?;
-    circle_lines(alloc, source, &circles)
-}
-
-/// Appends the step between files that an import is, if it leads to one.
-fn push_edge(link: &Link<'_>, edges: &mut Vec<Edge>) -> Result<(), AllocError>
-    ensures { OnOk result (edges.new.items ≡ edges.old.items ++ edges_of link.now) }
-{
-    if let Target::File(to) = link.target {
-        edges.push(Edge {
-            from: link.from,
-            to,
-        })?;
-    }
-    Ok(())
-}
-
-/// Returns the steps between files that imports are.
-#[tactic(auto, using(std::proofs::lemmas::List::flat_map_more, std::proofs::lemmas::List::take_more))]
-fn edges_in(alloc: Global, links: &[Link<'_>]) -> Result<Vec<Edge>, AllocError>
-    ensures { IfOk result (λ edges. edges.items ≡ edges_in links.now) }
-{
-    let mut edges = Vec::new(alloc);
-    for link in links {
-        push_edge(link, &mut edges)?;
-    }
-    Ok(edges)
-}
-
-/// Returns the lines that tell the circles of imports.
-fn import_circles(
-    alloc: Global,
-    files: &[ModuleFile<'_>],
-    links: &[Link<'_>],
-) -> Result<String, AllocError>
-    ensures { IfOk result (λ lines. TellImports files.now links.now (string_bytes lines)) }
-{
-    let edges = edges_in(alloc, links)?;
-    let rings = find_circles(alloc, files.len(), &edges)?;
-    rings_lines(alloc, files, &edges, &rings)
-}
-
-/// Returns the lines that tell circles of steps between files.
-#[tactic(auto, using(std::proofs::lemmas::List::flat_map_more, std::proofs::lemmas::List::take_more))]
-fn rings_lines(
-    alloc: Global,
-    files: &[ModuleFile<'_>],
-    edges: &[Edge],
-    rings: &[circles::Circle],
-) -> Result<String, AllocError>
-    ensures { IfOk result (λ lines. string_bytes lines
-        ≡ flat_map (ring_lines files.now edges.now) rings.now) }
-{
-    let mut lines = String::new(alloc);
-    for ring in rings {
-        push_ring(files, edges, ring, &mut lines)?;
-    }
-    Ok(lines)
-}
-
-/// Appends the line that tells a circle: the step that leads back to where it begins.
-fn push_ring(
-    files: &[ModuleFile<'_>],
-    edges: &[Edge],
-    ring: &circles::Circle,
-    lines: &mut String,
-) -> Result<(), AllocError>
-    ensures { OnOk result (string_bytes lines.new
-        ≡ string_bytes lines.old ++ ring_lines files.now edges.now ring.now) }
-{
-    match edges.get(last_step(ring)) {
-        Some(edge) => push_edge_line(files, *edge, lines),
-        None => Ok(()),
-    }
-}
-
-/// Returns the index of the step that leads back to where a circle begins.
-fn last_step(ring: &circles::Circle) -> usize
-    ensures { result ≡ last_step ring.now }
-{
-    match ring.others.last() {
-        Some(index) => *index,
-        None => ring.first,
-    }
-}
-
-/// Appends the line that tells that an import is part of a circle.
-fn push_edge_line(
-    files: &[ModuleFile<'_>],
-    edge: Edge,
-    lines: &mut String,
-) -> Result<(), AllocError>
-    ensures { OnOk result (string_bytes lines.new
-        ≡ string_bytes lines.old ++ edge_text files.now edge) }
-{
-    let import = name_at(files, edge.to);
-    let current = name_at(files, edge.from);
-    push_circular(import, current, lines)
-}
-
-/// Appends the line that tells that the import of a file in another one is part of a circle.
-fn push_circular(import: &str, current: &str, lines: &mut String) -> Result<(), AllocError>
-    ensures { OnOk result (string_bytes lines.new
-        ≡ string_bytes lines.old ++ circular_text import.now current.now) }
-{
-    lines.push_str("error: import `")?;
-    lines.push_str(import)?;
-    lines.push_str("` in `")?;
-    lines.push_str(current)?;
-    lines.push_str("` is circular\n")?;
-    Ok(())
-}
-
-/// Returns the name of the file with an index.
-fn name_at<'a>(files: &[ModuleFile<'a>], index: usize) -> &'a str
-    ensures { result.now ≡ name_at files.now index }
-{
-    match files.get(index) {
-        Some(file) => file.name,
-        None => "",
-    }
+    let circles = circles_of(alloc, &file.facts.definitions, &file.facts.uses)?;
+    circle_lines(alloc, file.source, &circles)
 }

@@ -5,22 +5,29 @@ use Rattle.justfile_problems.specs.declared.facts.Rules.{Rules}
 use Rattle.justfile_problems.specs.declared.facts.Suspect.{Suspect}
 use Rattle.justfile_problems.specs.declared.facts.Use.{Use}
 use Rattle.justfile_problems.specs.declared.names.Names.{Names}
+use Rattle.justfile_problems.specs.declared.overridden.Overridden.{Overridden}
 use Rattle.justfile_problems.specs.declared.problem.Problem.{Problem}
 use Rattle.justfile_problems.specs.Names.{HasFirsts, first, known}
+use Rattle.justfile_problems.specs.Overridden.{AreOverridden, is_overridden, is_overridden_in}
 use Rattle.justfile_problems.specs.Problems.{all_problems, definition_problems, problems_within, suspect_problems, use_problems, within}
 
 -- the tables and the definitions say the same of each name
 pub are_known : (names : Names) (ds : List Definition) → HasFirsts ds names → known names ≡ first ds
 are_known names ds h = λ i. λ space scope text. h space scope text i
 
-pub all_found : (rules : Rules) (names : Names) (ds : List Definition) (us : List Use) (ss : List Suspect) (a b c d : List Problem) → HasFirsts ds names
-    → a ≡ [] ++ definition_problems rules (known names) ds → b ≡ a ++ use_problems rules (known names) us → c ≡ b ++ suspect_problems rules (known names) ss → IsPermutation c d
-    → IsPermutation (all_problems rules ds us ss) d
-all_found rules names ds us ss a b c d h ea eb ec p =
-    let of_uses = use_problems rules (known names) us in
+are_overridden : (overridden : Overridden) (ds : List Definition) → AreOverridden ds overridden.offsets → is_overridden_in overridden ≡ is_overridden ds
+are_overridden overridden ds h = λ i. λ offset. h offset i
+
+pub all_found : (rules : Rules) (names : Names) (overridden : Overridden) (ds : List Definition) (us : List Use) (ss : List Suspect) (a b c d : List Problem) → HasFirsts ds names
+    → AreOverridden ds overridden.offsets → a ≡ [] ++ definition_problems rules (known names) ds → b ≡ a ++ use_problems rules (known names) (is_overridden_in overridden) us
+    → c ≡ b ++ suspect_problems rules (known names) ss → IsPermutation c d → IsPermutation (all_problems rules ds us ss) d
+all_found rules names overridden ds us ss a b c d h o ea eb ec p =
+    let of_uses = use_problems rules (known names) (is_overridden_in overridden) us in
     let of_suspects = suspect_problems rules (known names) ss in
     subst (λ l. IsPermutation l d)
-    (ec ∙ ap (λ l. l ++ of_suspects) (eb ∙ ap (λ l. l ++ of_uses) ea) ∙ ap (λ k. definition_problems rules k ds ++ use_problems rules k us ++ suspect_problems rules k ss) (are_known names ds h)) p
+    (ec ∙ ap (λ l. l ++ of_suspects) (eb ∙ ap (λ l. l ++ of_uses) ea)
+    ∙ ap (λ o. definition_problems rules (known names) ds ++ use_problems rules (known names) o us ++ of_suspects) (are_overridden overridden ds o)
+    ∙ ap (λ k. definition_problems rules k ds ++ use_problems rules k (is_overridden ds) us ++ suspect_problems rules k ss) (are_known names ds h)) p
 
 -- what is wrong with definitions, from a table that has the first ones
 pub own_found : {A E : Type 0} (r : Result A E) (rules : Rules) (names : Names) (ds : List Definition) (old new : List Problem) → HasFirsts ds names
@@ -28,16 +35,18 @@ pub own_found : {A E : Type 0} (r : Result A E) (rules : Rules) (names : Names) 
 own_found r rules names ds old new h f = subst (λ k. OnOk r (new ≡ old ++ definition_problems rules k ds)) (are_known names ds h) f
 
 -- all problems of a file of a module
-pub within_found : (rules : Rules) (names : Names) (all own known_here : List Definition) (us : List Use) (ss : List Suspect) (a b c d : List Problem) → known_here ≡ within all own
-    → HasFirsts known_here names → a ≡ [] ++ definition_problems rules (first own) own → b ≡ a ++ use_problems rules (known names) us → c ≡ b ++ suspect_problems rules (known names) ss
-    → IsPermutation c d → IsPermutation (problems_within rules all own us ss) d
-within_found rules names all own known_here us ss a b c d is h ea eb ec p =
-    let of_uses = use_problems rules (known names) us in
+pub within_found : (rules : Rules) (names : Names) (overridden : Overridden) (all own known_here : List Definition) (us : List Use) (ss : List Suspect) (a b c d : List Problem)
+    → known_here ≡ within all own → HasFirsts known_here names → AreOverridden own overridden.offsets → a ≡ [] ++ definition_problems rules (first own) own
+    → b ≡ a ++ use_problems rules (known names) (is_overridden_in overridden) us → c ≡ b ++ suspect_problems rules (known names) ss → IsPermutation c d
+    → IsPermutation (problems_within rules all own us ss) d
+within_found rules names overridden all own known_here us ss a b c d is h o ea eb ec p =
+    let of_uses = use_problems rules (known names) (is_overridden_in overridden) us in
     let of_suspects = suspect_problems rules (known names) ss in
     let of_own = definition_problems rules (first own) own in
     subst (λ l. IsPermutation l d)
     (ec ∙ ap (λ l. l ++ of_suspects) (eb ∙ ap (λ l. l ++ of_uses) ea)
-    ∙ ap (λ k. of_own ++ use_problems rules k us ++ suspect_problems rules k ss) (are_known names known_here h ∙ ap first is)) p
+    ∙ ap (λ o. of_own ++ use_problems rules (known names) o us ++ of_suspects) (are_overridden overridden own o)
+    ∙ ap (λ k. of_own ++ use_problems rules k (is_overridden own) us ++ suspect_problems rules k ss) (are_known names known_here h ∙ ap first is)) p
 
 -- a file that shares nothing
 pub alone : {E : Type 0} (r : Result (Vec Problem Global) E) (rules : Rules) (all own : List Definition) (us : List Use) (ss : List Suspect) → length all < 1

@@ -1,4 +1,5 @@
 pub mod Firsts
 pub mod Known
 pub mod Lasts
+pub mod Overrides
 pub mod Rings

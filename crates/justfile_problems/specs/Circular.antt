@@ -1,5 +1,5 @@
 -- Recipes that depend on themselves, and variables that are defined in terms of themselves, directly or through others.
-use Rattle.std.specs.Prelude.{◌≡◌, ◌++◌, ◌<◌, ◌-◌, ◌&&◌, ℕ, suc, Bool, true, false, All, List, [], ◌∷◌, Option, Some, None, Vec, cond, drop, length, map, nat_eq, slice_get, slice_index_or, take, unwrap_or}
+use Rattle.std.specs.Prelude.{◌≡◌, ◌++◌, ◌<◌, ◌-◌, ◌&&◌, ℕ, suc, All, List, [], ◌∷◌, Option, Some, None, Vec, cond, drop, length, map, nat_eq, slice_get, slice_index_or, take, unwrap_or}
 use Rattle.std.specs.List.{AllZip, flat_map}
 use Rattle.std.specs.Option.{option_or}
 use Rattle.std.specs.HashMap.{HashMap, get_by}
@@ -11,7 +11,6 @@ use Rattle.circles.specs.FirstCircles.{AreFirstCircles, steps_of}
 use Rattle.circles.specs.declared.circle.Circle.{Circle as Ring}
 use Rattle.circles.specs.declared.edge.Edge.{Edge}
 use Rattle.justfile_builtins.specs.Constants.{is_constant}
-use Rattle.justfile_vocabulary.specs.declared.item_kind.ItemKind.{ItemKind}
 use Rattle.justfile_token.specs.Name.{name_text}
 use Rattle.justfile_token.specs.declared.compile_error.CompileError.{CompileError}
 use Rattle.justfile_token.specs.declared.compile_error_kind.CompileErrorKind.TheVariants as kinds
@@ -28,18 +27,9 @@ use Rattle.justfile_problems.specs.declared.nodes.Node.{Node}
 use Rattle.justfile_problems.specs.declared.nodes.Nodes.{Nodes}
 use Rattle.justfile_problems.specs.declared.steps.Step.{Step}
 use Rattle.justfile_problems.specs.Names.{key, key_of, same}
-use Rattle.justfile_problems.specs.Problems.{is_recipe, offset_of}
+use Rattle.justfile_problems.specs.Overridden.{is_node, offset_of}
 
 -- ---- the nodes
-
-abbrev pub is_node_in : Space → ItemKind → Bool
-is_node_in spaces.Commands kind = is_recipe kind
-is_node_in spaces.Variables kind = true
-is_node_in other kind = false
-
--- whether it is the definition of a recipe or of a variable
-abbrev pub is_node : Definition → Bool
-is_node d = is_node_in d.space d.kind
 
 -- a definition at an index, if it is the one of a recipe or a variable with a key
 abbrev pub node_at : (index : ℕ) → Definition → Key → Option Node

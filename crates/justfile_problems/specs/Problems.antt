@@ -29,15 +29,13 @@ use Rattle.justfile_problems.specs.declared.problem.Problem.{Problem}
 use Rattle.justfile_problems.specs.declared.problem.What.{What}
 use Rattle.justfile_problems.specs.declared.problem.What.TheVariants as whats
 use Rattle.justfile_problems.specs.Names.{first, scope_in, text_in}
+use Rattle.justfile_problems.specs.Overridden.{is_overridden, is_recipe, offset_of}
 
 abbrev pub at_token : Token → What → Problem
 at_token token what = record { token = token; what = what }
 
 abbrev pub at : Name → What → Problem
 at name what = at_token name.token what
-
-abbrev pub offset_of : Name → ℕ
-offset_of name = name.token.offset
 
 -- nothing, if there is a reason to be silent
 abbrev pub unless : Bool → Problem → Option Problem
@@ -50,10 +48,6 @@ is_within found (Some most) = not (nat_lt most found)
 
 abbrev pub fits : Arguments → ℕ → Bool
 fits takes found = not (nat_lt found takes.least) && is_within found takes.most
-
-abbrev pub is_recipe : ItemKind → Bool
-is_recipe kinds.Recipe = true
-is_recipe other = false
 
 abbrev pub are_recipes : (first again : Definition) → Bool
 are_recipes f d = is_recipe f.kind && is_recipe d.kind
@@ -72,6 +66,11 @@ is_seen (Some end) (Some parameter) = nat_lt (offset_of parameter.name) end
 abbrev pub parameter_again : ItemKind → (item first : Name) → What
 parameter_again kinds.Recipe item first = whats.DuplicateParameter item first
 parameter_again other item first = whats.DuplicateFunctionParameter item first
+
+-- whether a use is judged beside its own item alone, also where that is overridden
+abbrev pub is_own : Role → Bool
+is_own roles.Required = true
+is_own other = false
 
 module _ (rules : Rules) where
   -- whether a recipe may be defined again, here or in another file
@@ -144,8 +143,12 @@ module _ (rules : Rules) where
       cond (is_seen end parameter || (is_some assignment || is_constant (name_text u.name))) None (missing hidden (at u.name whats.UndefinedVariable))
 
   -- whether a use may be in a comment
-  abbrev pub is_skipped : Use → Bool
-  is_skipped u = u.commented && (rules.ignore_comments || rules.open)
+  abbrev pub may_be_comment : Use → Bool
+  may_be_comment u = u.commented && (rules.ignore_comments || rules.open)
+
+  -- whether nothing is said of a use: it may be in a comment, or its item is overridden
+  abbrev pub is_skipped : (overridden : (offset : ℕ) → Bool) → Use → Bool
+  is_skipped overridden u = may_be_comment u || (overridden (offset_of u.item) && not (is_own u.role))
 
   -- whether a recipe may be run as a script, by a setting here or in another file
   abbrev pub may_be_script : (shell : Bool) → Bool
@@ -180,12 +183,11 @@ module _ (rules : Rules) (known : Space → (scope : ℕ) → (text : List ℕ) 
   by_role u (roles.Dependency found) = depended rules u found (defined known spaces.HiddenCommands u.name) (defined known spaces.Commands u.name)
   by_role u (roles.Exclusive keyword other) = excluded u keyword other (known spaces.ExclusiveSettings 0 (keyword_text other))
   by_role u roles.Export = exported u (defined known spaces.Unexports u.name)
-  by_role u (roles.Function found) = cond (is_skipped rules u) None (called rules u found (defined known spaces.HiddenFunctions u.name) (defined known spaces.Functions u.name))
+  by_role u (roles.Function found) = called rules u found (defined known spaces.HiddenFunctions u.name) (defined known spaces.Functions u.name)
   by_role u roles.Required = required u (known spaces.Defaults (offset_of u.item) [])
   by_role u roles.Target = aimed rules u (defined known spaces.HiddenCommands u.name) (defined known spaces.Commands u.name)
   by_role u (roles.Variable end) =
-      cond (is_skipped rules u) None
-      (valued rules u end (defined known spaces.HiddenVariables u.name) (known spaces.Parameters (offset_of u.item) (name_text u.name)) (defined known spaces.Variables u.name))
+      valued rules u end (defined known spaces.HiddenVariables u.name) (known spaces.Parameters (offset_of u.item) (name_text u.name)) (defined known spaces.Variables u.name)
 
   -- whether a feature may be used: by a setting here or in another file, or since it is a function of the file's own
   abbrev pub is_allowed : Token → ListFeature → Bool
@@ -203,9 +205,6 @@ module _ (rules : Rules) (known : Space → (scope : ℕ) → (text : List ℕ) 
   abbrev pub suspect_problem : Suspect → Option Problem
   suspect_problem s = by_kind s.token s.kind
 
-  abbrev pub use_problem : Use → Option Problem
-  use_problem u = by_role u u.role
-
   -- what is wrong with a definition
   abbrev pub definition_problem : Definition → Option Problem
   definition_problem d = against rules d (known d.space (scope_in d.space d.item) (text_in d.space d.name))
@@ -213,15 +212,20 @@ module _ (rules : Rules) (known : Space → (scope : ℕ) → (text : List ℕ) 
   abbrev pub definition_problems : List Definition → List Problem
   definition_problems ds = flat_map (λ d. option_to_list (definition_problem d)) ds
 
-  abbrev pub use_problems : List Use → List Problem
-  use_problems us = flat_map (λ u. option_to_list (use_problem u)) us
-
   abbrev pub suspect_problems : List Suspect → List Problem
   suspect_problems ss = flat_map (λ s. option_to_list (suspect_problem s)) ss
 
+  module _ (overridden : (offset : ℕ) → Bool) where
+    abbrev pub use_problem : Use → Option Problem
+    use_problem u = cond (is_skipped rules overridden u) None (by_role u u.role)
+
+    abbrev pub use_problems : List Use → List Problem
+    use_problems us = flat_map (λ u. option_to_list (use_problem u)) us
+
 -- all that is wrong
 abbrev pub all_problems : Rules → List Definition → List Use → List Suspect → List Problem
-all_problems rules ds us ss = definition_problems rules (first ds) ds ++ use_problems rules (first ds) us ++ suspect_problems rules (first ds) ss
+all_problems rules ds us ss =
+    definition_problems rules (first ds) ds ++ use_problems rules (first ds) (is_overridden ds) us ++ suspect_problems rules (first ds) ss
 
 -- whether the files of a module share the names of a set: an item has its own, and what is compared by places is in one file
 abbrev pub is_shared : Space → Bool
@@ -240,7 +244,7 @@ within all own = flat_map shared_of all ++ own
 -- All that is wrong with a file of a module. Its definitions are judged among themselves, and all else by what the module defines.
 abbrev pub problems_within : Rules → (all own : List Definition) → List Use → List Suspect → List Problem
 problems_within rules all own us ss =
-    definition_problems rules (first own) own ++ use_problems rules (first (within all own)) us ++ suspect_problems rules (first (within all own)) ss
+    definition_problems rules (first own) own ++ use_problems rules (first (within all own)) (is_overridden own) us ++ suspect_problems rules (first (within all own)) ss
 
 -- what files allow together, where other ones may define names or not
 abbrev pub joined : (may_be_more : Bool) → List Rules → Rules

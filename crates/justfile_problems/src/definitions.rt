@@ -1,7 +1,8 @@
 //! What is wrong with a definition.
 ghost use Rattle.std.specs.Prelude.{◌≡◌};
 ghost use Rattle.justfile_problems.specs.Names.{known};
-ghost use Rattle.justfile_problems.specs.Problems.{again, against, definition_problem, is_recipe, parameter_again, variables_repeat};
+ghost use Rattle.justfile_problems.specs.Overridden.{is_recipe};
+ghost use Rattle.justfile_problems.specs.Problems.{again, against, definition_problem, parameter_again, variables_repeat};
 
 use crate::facts::{Definition, Rules, Space};
 use crate::judged::{at, recipes_repeat, unless};

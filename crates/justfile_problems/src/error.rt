@@ -1,9 +1,10 @@
 //! The errors that problems are.
 ghost use Rattle.std.specs.Prelude.{◌≡◌, IfOk};
-ghost use Rattle.justfile_problems.specs.Errors.{IsErrorOf, Says};
+ghost use Rattle.justfile_token.specs.Namepath.{names_in};
+ghost use Rattle.justfile_problems.specs.Errors.{IsErrorOf, IsErrorWithin, Says, path_to};
 
 use crate::problem::{Problem, What};
-use justfile_token::{CompileError, CompileErrorKind, Namepath, Token};
+use justfile_token::{CompileError, CompileErrorKind, Name, Namepath, Token};
 use std::alloc::{AllocError, Global};
 
 impl<'src> Problem<'src> {
@@ -15,18 +16,48 @@ impl<'src> Problem<'src> {
     pub fn error(&self, alloc: Global) -> Result<CompileError<'src>, AllocError>
         ensures { IfOk result (λ error. IsErrorOf self.now error) }
     {
-        let kind = kind_of(alloc, self.token, self.what)?;
+        self.error_within(alloc, None)
+    }
+
+    /// Returns the error, where a name that isn't known has the name of a module before it, or none.
+    ///
+    /// # Errors
+    ///
+    /// `AllocError` if memory runs out.
+    pub fn error_within(
+        &self,
+        alloc: Global,
+        owner: Option<Name<'src>>,
+    ) -> Result<CompileError<'src>, AllocError>
+        ensures { IfOk result (λ error. IsErrorWithin owner.entry self.now error) }
+    {
+        let kind = kind_of(alloc, owner, self.token, self.what)?;
         Ok(self.token.error(kind))
     }
 }
 
-/// Returns the kind of error at a token.
+/// Returns the path of a name of a module, or of a name alone.
+fn path_to<'src>(
+    alloc: Global,
+    owner: Option<Name<'src>>,
+    name: Name<'src>,
+) -> Result<Namepath<'src>, AllocError>
+    ensures { IfOk result (λ path. names_in path ≡ path_to owner.entry name.entry) }
+{
+    match owner {
+        Some(owner) => Namepath::from_name(alloc, owner)?.join(alloc, name),
+        None => Namepath::from_name(alloc, name),
+    }
+}
+
+/// Returns the kind of error at a token, with a name of a module or of none.
 fn kind_of<'src>(
     alloc: Global,
+    owner: Option<Name<'src>>,
     token: Token<'src>,
     what: What<'src>,
 ) -> Result<CompileErrorKind<'src>, AllocError>
-    ensures { IfOk result (λ kind. Says token.entry what.entry kind) }
+    ensures { IfOk result (λ kind. Says owner.entry token.entry what.entry kind) }
 {
     let text = token.lexeme();
     match what {
@@ -34,7 +65,7 @@ fn kind_of<'src>(
             dependency,
             found,
             takes,
-        } => match Namepath::from_name(alloc, dependency) {
+        } => match path_to(alloc, owner, dependency) {
             Ok(dependency) => Ok(CompileErrorKind::DependencyArgumentCountMismatch {
                 dependency,
                 found,
@@ -104,14 +135,14 @@ fn kind_of<'src>(
         }
         What::UndefinedFunction => Ok(CompileErrorKind::UndefinedFunction { function: text }),
         What::UndefinedVariable => Ok(CompileErrorKind::UndefinedVariable { variable: text }),
-        What::UnknownAliasTarget { target } => match Namepath::from_name(alloc, target) {
+        What::UnknownAliasTarget { target } => match path_to(alloc, owner, target) {
             Ok(target) => Ok(CompileErrorKind::UnknownAliasTarget {
                 alias: text,
                 target,
             }),
             Err(fault) => Err(fault),
         },
-        What::UnknownDependency { item, unknown } => match Namepath::from_name(alloc, unknown) {
+        What::UnknownDependency { item, unknown } => match path_to(alloc, owner, unknown) {
             Ok(unknown) => Ok(CompileErrorKind::UnknownDependency {
                 recipe: item.lexeme(),
                 unknown,

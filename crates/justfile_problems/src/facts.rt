@@ -138,6 +138,15 @@ pub struct Rules {
     pub open: bool,
 }
 
+/// A place where a name of a module is used, by a path of two names.
+#[derive(Clone, Copy)]
+pub struct Member<'src> {
+    /// The name of the module.
+    pub owner: Name<'src>,
+    /// The use of the other name, as it is used in the module.
+    pub used: Use<'src>,
+}
+
 /// What a file says of names.
 #[derive(Drop)]
 pub struct Facts<'src> {
@@ -147,11 +156,13 @@ pub struct Facts<'src> {
     pub definitions: Vec<Definition<'src>>,
     /// Where they use names.
     pub uses: Vec<Use<'src>>,
+    /// Where they use names of modules.
+    pub members: Vec<Member<'src>>,
     /// Where they are wrong under some settings.
     pub suspects: Vec<Suspect<'src>>,
 }
 
-/// Where an import leads.
+/// Where an import or a module leads.
 #[derive(Clone, Copy, Debug, PartialEq, Eq)]
 pub enum Target {
     /// To the file with this index.
@@ -162,7 +173,7 @@ pub enum Target {
     Unknown,
 }
 
-/// An import of one file by another.
+/// An import of one file by another, or a module.
 #[derive(Clone, Copy)]
 pub struct Link<'src> {
     /// The index of the file that has it.
@@ -171,7 +182,9 @@ pub struct Link<'src> {
     pub target: Target,
     /// Whether it need not lead to a file.
     pub optional: bool,
-    /// The token of its path.
+    /// The name of the module, if it is one.
+    pub submodule: Option<Name<'src>>,
+    /// The token of its path, or of that name.
     pub token: Token<'src>,
 }
 
@@ -189,6 +202,41 @@ pub struct Import<'src> {
     pub token: Token<'src>,
 }
 
+/// A module, as it is written.
+#[derive(Drop)]
+pub struct Submodule<'src> {
+    /// Its name.
+    pub name: Name<'src>,
+    /// The path that it is given, as it is meant, if it is.
+    pub path: Option<String>,
+    /// Whether that leads to the file as it is, as that of an import.
+    pub plain: bool,
+    /// Whether its file need not exist.
+    pub optional: bool,
+}
+
+/// Where the file of a module is.
+#[derive(Drop)]
+pub enum Located {
+    /// At this path, if there is a file.
+    At(String),
+    /// Nowhere.
+    Nowhere,
+    /// It isn't known.
+    Unknown,
+}
+
+/// A module, and where its file is.
+#[derive(Drop)]
+pub struct LocatedModule<'src> {
+    /// Its name.
+    pub name: Name<'src>,
+    /// Whether its file need not exist.
+    pub optional: bool,
+    /// Where that is.
+    pub file: Located,
+}
+
 /// A file of a module.
 #[derive(Drop)]
 pub struct ModuleFile<'src> {
@@ -202,4 +250,6 @@ pub struct ModuleFile<'src> {
     pub facts: Facts<'src>,
     /// Its imports.
     pub imports: Vec<Import<'src>>,
+    /// Its modules.
+    pub modules: Vec<LocatedModule<'src>>,
 }

@@ -13,6 +13,7 @@ mod listing;
 mod module;
 mod names;
 mod nodes;
+mod overridden;
 mod problem;
 mod steps;
 mod suspects;
@@ -20,8 +21,8 @@ mod uses;
 
 pub use crate::circular::{Circle, circles_of};
 pub use crate::facts::{
-    Definition, Facts, Import, Link, ModuleFile, Role, Rules, Space, Suspect, SuspectKind, Target,
-    Use,
+    Definition, Facts, Import, Link, Located, LocatedModule, Member, ModuleFile, Role, Rules,
+    Space, Submodule, Suspect, SuspectKind, Target, Use,
 };
 pub use crate::listing::problems;
 pub use crate::module::{joined, problems_within};

@@ -2,11 +2,13 @@
 ghost use Rattle.std.specs.Prelude.{◌≡◌, ◌++◌, IfOk, IsPermutation, OnOk, option_to_list};
 ghost use Rattle.std.specs.List.Sorted.{IsNonDecreasingBy};
 ghost use Rattle.justfile_problems.specs.Names.{known};
+ghost use Rattle.justfile_problems.specs.Overridden.{is_overridden_in};
 ghost use Rattle.justfile_problems.specs.Problems.{all_problems, definition_problems, suspect_problems, use_problems};
 
 use crate::definitions::definition_problem;
 use crate::facts::{Definition, Rules, Suspect, Use};
 use crate::names::Names;
+use crate::overridden::Overridden;
 use crate::problem::Problem;
 use crate::suspects::suspect_problem;
 use crate::uses::use_problem;
@@ -30,9 +32,10 @@ pub fn problems<'src>(
         (λ found. IsNonDecreasingBy (λ p. p.token.offset) found.items) }
 {
     let names = Names::of(alloc, definitions)?;
+    let overridden = Overridden::of(alloc, definitions)?;
     let mut found = Vec::new(alloc);
     push_of_definitions(rules, &names, definitions, &mut found)?;
-    push_of_uses(rules, &names, uses, &mut found)?;
+    push_of_uses(rules, &names, &overridden, uses, &mut found)?;
     push_of_suspects(rules, &names, suspects, &mut found)?;
     found.sort_by_key(|problem| problem.token.offset)?;
     Ok(found)
@@ -60,14 +63,15 @@ pub(crate) fn push_of_definitions<'src>(
 pub(crate) fn push_of_uses<'src>(
     rules: Rules,
     names: &Names<'src>,
+    overridden: &Overridden,
     uses: &[Use<'src>],
     found: &mut Vec<Problem<'src>>,
 ) -> Result<(), AllocError>
-    ensures { OnOk result (found.new.items
-        ≡ found.old.items ++ use_problems rules (known names.now) uses.now) }
+    ensures { OnOk result (found.new.items ≡ found.old.items
+        ++ use_problems rules (known names.now) (is_overridden_in overridden.now) uses.now) }
 {
     for used in uses {
-        push(use_problem(rules, names, used), found)?;
+        push(use_problem(rules, names, overridden, used), found)?;
     }
     Ok(())
 }

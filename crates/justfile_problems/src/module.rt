@@ -8,6 +8,7 @@ ghost use Rattle.justfile_problems.specs.Problems.{definition_problems, is_share
 use crate::facts::{Definition, Rules, Space, Suspect, Use};
 use crate::listing::{problems, push_of_definitions, push_of_suspects, push_of_uses};
 use crate::names::Names;
+use crate::overridden::Overridden;
 use crate::problem::Problem;
 use std::alloc::{AllocError, Global};
 
@@ -179,7 +180,8 @@ fn problems_beside<'src>(
     push_of_own(alloc, rules, own, &mut found)?;
     let known = within(alloc, all, own)?;
     let names = Names::of(alloc, &known)?;
-    push_of_uses(rules, &names, uses, &mut found)?;
+    let overridden = Overridden::of(alloc, own)?;
+    push_of_uses(rules, &names, &overridden, uses, &mut found)?;
     push_of_suspects(rules, &names, suspects, &mut found)?;
     found.sort_by_key(|problem| problem.token.offset)?;
     Ok(found)

@@ -1,12 +1,12 @@
 //! The definitions of recipes and variables that count, if they are defined again: the last ones.
 ghost use Rattle.std.specs.Prelude.{◌≡◌, IfOk, OnOk};
-ghost use Rattle.justfile_problems.specs.Circular.{HasLasts, Stores, is_node, last, node_of};
-ghost use Rattle.justfile_problems.specs.Problems.{offset_of};
+ghost use Rattle.justfile_problems.specs.Circular.{HasLasts, Stores, last, node_of};
+ghost use Rattle.justfile_problems.specs.Overridden.{offset_of};
 
-use crate::definitions::is_recipe;
 use crate::facts::{Definition, Space};
 use crate::key::Key;
 use crate::names::{scope_in, text_in};
+use crate::overridden::is_node;
 use std::alloc::{AllocError, Global};
 use std::collections::HashMap;
 
@@ -48,17 +48,6 @@ impl<'src> Nodes<'src> {
                 name,
             })
             .copied()
-    }
-}
-
-/// Whether it is the definition of a recipe or of a variable.
-fn is_node(definition: &Definition<'_>) -> bool
-    ensures { result ≡ is_node definition.now }
-{
-    match definition.space {
-        Space::Commands => is_recipe(definition.kind),
-        Space::Variables => true,
-        _ => false,
     }
 }
 

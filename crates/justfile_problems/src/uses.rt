@@ -1,13 +1,15 @@
 //! What is wrong with a use.
 ghost use Rattle.std.specs.Prelude.{◌≡◌};
 ghost use Rattle.justfile_problems.specs.Names.{known};
-ghost use Rattle.justfile_problems.specs.Problems.{by_role, defined, excluded, exported, is_before, is_seen, is_skipped, required, use_problem, valued};
+ghost use Rattle.justfile_problems.specs.Overridden.{is_overridden_in};
+ghost use Rattle.justfile_problems.specs.Problems.{by_role, defined, excluded, exported, is_before, is_own, is_seen, is_skipped, may_be_comment, required, use_problem, valued};
 ghost use Rattle.justfile_problems.specs.declared.facts.Role.TheVariants.{Function, Variable};
 
 use crate::calls::{aimed, called, depended, missing};
 use crate::facts::{Definition, Role, Rules, Space, Use};
 use crate::judged::at;
 use crate::names::Names;
+use crate::overridden::Overridden;
 use crate::problem::{Problem, What};
 use justfile_builtins::constants::is_constant;
 use justfile_token::Name;
@@ -54,10 +56,27 @@ fn valued<'src>(
 }
 
 /// Whether a use may be in a comment.
-fn is_skipped(rules: Rules, used: &Use<'_>) -> bool
-    ensures { result ≡ is_skipped rules used.now }
+fn may_be_comment(rules: Rules, used: &Use<'_>) -> bool
+    ensures { result ≡ may_be_comment rules used.now }
 {
     used.commented && (rules.ignore_comments || rules.open)
+}
+
+/// Whether a use is judged beside its own item alone, also where that is overridden.
+fn is_own(role: Role) -> bool
+    ensures { result ≡ is_own role }
+{
+    match role {
+        Role::Required => true,
+        _ => false,
+    }
+}
+
+/// Whether nothing is said of a use: it may be in a comment, or its item is overridden.
+fn is_skipped(rules: Rules, overridden: &Overridden, used: &Use<'_>) -> bool
+    ensures { result ≡ is_skipped rules (is_overridden_in overridden.now) used.now }
+{
+    may_be_comment(rules, used) || overridden.has(used.item.token.offset) && !is_own(used.role)
 }
 
 /// Returns what is wrong with an assignment that is exported, beside what removes its name from the
@@ -129,9 +148,6 @@ fn variable_problem<'src>(
 ) -> Option<Problem<'src>>
     ensures { result ≡ by_role rules (known names.now) used.now (Variable end) }
 {
-    if is_skipped(rules, used) {
-        return None;
-    }
     let scope = used.item.token.offset;
     let parameter = names.first(Space::Parameters, scope, used.name.lexeme());
     let assignment = defined(names, Space::Variables, used.name);
@@ -154,9 +170,6 @@ fn call_problem<'src>(
 ) -> Option<Problem<'src>>
     ensures { result ≡ by_role rules (known names.now) used.now (Function found) }
 {
-    if is_skipped(rules, used) {
-        return None;
-    }
     let definition = defined(names, Space::Functions, used.name);
     called(
         rules,
@@ -171,9 +184,22 @@ fn call_problem<'src>(
 pub(crate) fn use_problem<'src>(
     rules: Rules,
     names: &Names<'src>,
+    overridden: &Overridden,
     used: &Use<'src>,
 ) -> Option<Problem<'src>>
-    ensures { result ≡ use_problem rules (known names.now) used.now }
+    ensures { result
+        ≡ use_problem rules (known names.now) (is_overridden_in overridden.now) used.now }
+{
+    if is_skipped(rules, overridden, used) {
+        None
+    } else {
+        by_role(rules, names, used)
+    }
+}
+
+/// Returns what is wrong with a use of which something may be said.
+fn by_role<'src>(rules: Rules, names: &Names<'src>, used: &Use<'src>) -> Option<Problem<'src>>
+    ensures { result ≡ by_role rules (known names.now) used.now used.now.role }
 {
     match used.role {
         Role::Dependency(found) => {

@@ -1,3 +1,4 @@
 pub mod Justfile
 pub mod Laws
 pub mod Linted
+pub mod Located

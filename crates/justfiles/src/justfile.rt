@@ -15,9 +15,10 @@ use justfile_files::linter::Linter;
 use justfile_files::sources::SourceFile;
 use justfile_files::visible::visible_lines;
 use justfile_syntax::format::format_text;
+use module_paths::Folders;
 use std::alloc::{AllocError, Global};
 
-/// Formats justfiles, and finds what is wrong with them.
+/// Formats justfiles.
 pub struct Justfile;
 
 impl Formatter for Justfile {
@@ -40,15 +41,22 @@ impl Formatter for Justfile {
     }
 }
 
-impl Linter for Justfile {
-    ghost leads = { LeadTo };
+/// Finds what is wrong with justfiles.
+#[derive(Drop)]
+pub struct Lints<'a, F> {
+    /// The folders in which the files of modules are.
+    pub folders: &'a F,
+}
 
-    ghost finds = { FindsShown };
+impl<F: Folders> Linter for Lints<'_, F> {
+    ghost leads = { LeadTo F.has };
+
+    ghost finds = { FindsShown F.has };
 
     ghost rejects = { AreRejected };
 
     fn paths(&self, alloc: Global, path: &str, source: &str) -> Result<Vec<String>, AllocError> {
-        paths_in(alloc, path, source)
+        paths_in(alloc, self.folders, path, source)
     }
 
     #[tactic(auto, using(crate::proofs::Told::shown_found, crate::proofs::Told::unshown))]
@@ -58,7 +66,7 @@ impl Linter for Justfile {
         files: &[SourceFile],
         missing: &[String],
     ) -> Result<String, Refusal> {
-        match lines_of(alloc, files, missing) {
+        match lines_of(alloc, self.folders, files, missing) {
             Ok(lines) => shown_lines(alloc, lines.as_str()),
             Err(refusal) => Err(refusal),
         }

@@ -5,11 +5,12 @@
 mod commit;
 mod justfile;
 mod linted;
+mod located;
 mod refusal;
 mod returned;
 
 use commit::COMMIT;
-use justfile::Justfile;
+use justfile::{Justfile, Lints};
 use justfile_files::folder::Folder;
 use justfile_files::help::HELP;
 use justfile_files::lint::lint;
@@ -47,7 +48,14 @@ fn run_on<D: Folder>(rt: &HostRuntime, work: Work, names: &[String], folder: &mu
             &mut output,
             &mut errors,
         ),
-        Work::Lint => lint(alloc, names, &Justfile, folder, &mut output, &mut errors),
+        Work::Lint => lint(
+            alloc,
+            names,
+            &Lints { folders: rt },
+            folder,
+            &mut output,
+            &mut errors,
+        ),
     }
 }
 

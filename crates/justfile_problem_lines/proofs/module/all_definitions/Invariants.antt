@@ -1,7 +1,6 @@
 use Rattle.std.proofs.Common.{◌≡◌, take}
-use Rattle.std.specs.List.{flat_map}
-use Rattle.justfile_problem_lines.specs.Modules.{definitions_of}
+use Rattle.justfile_problem_lines.specs.Modules.{all_definitions}
 use Rattle.justfile_problem_lines.proofs.module.all_definitions.Given as goal
 
-abbrev pub invariant-loop-file : goal.invariant-loop-file
-invariant-loop-file l = l.all.items ≡ flat_map definitions_of (take l.file-index l.files)
+abbrev pub invariant-loop-index : goal.invariant-loop-index
+invariant-loop-index l = l.all.items ≡ all_definitions l.files (take l.index-index l.group)

@@ -1,6 +1,9 @@
-use Rattle.justfile_problem_lines.proofs.Parts.{one_part}
+use Rattle.std.proofs.Common.{ℕ, List, slice_get}
+use Rattle.justfile_problem_lines.specs.Modules.{TellAny, TellPart}
+use Rattle.justfile_problem_lines.proofs.Parts.{one_at}
 use Rattle.justfile_problem_lines.proofs.module.parts.Goals as goal
 
-pub loop-file-preserved : goal.loop-file-preserved
-loop-file-preserved c =
-    one_part c.args.rules c.args.all.now c.args.files.now c.loop-file.file-index c.file-item.result _ _ _ c.loop-file-test.true c.file-item.is c.loop-file.invariant c.in_ok-part.ensures c.in_ok-append.ensures
+pub loop-index-preserved : goal.loop-index-preserved
+loop-index-preserved c =
+    one_at (λ (index : ℕ) (part : List ℕ). TellAny (TellPart c.args.rules c.args.all.now) (slice_get c.args.files.now index) part) c.args.group.now c.loop-index.index-index _ _ _ _ c.loop-index-test.true
+    c.loop-index.invariant c.in_ok-part.ensures c.in_ok-append.ensures

@@ -49,13 +49,13 @@ returns-in-UndefinedFunction c = rw c.in-UndefinedFunction.is (record { said = c
 pub returns-in-UndefinedVariable : goal.returns-in-UndefinedVariable
 returns-in-UndefinedVariable c = rw c.in-UndefinedVariable.is (record { said = c.lexeme-text.result; is = refl; has = search rules })
 
-pub returns-in-Ok-from_name : goal.returns-in-Ok-from_name
-returns-in-Ok-from_name c =
-    rw c.in-UnknownAliasTarget.is (record { said = c.lexeme-text.result; path = c.in-Ok-from_name.target; is = refl; has_text = search rules; has_path = search rules })
+pub returns-in-Ok-path_to : goal.returns-in-Ok-path_to
+returns-in-Ok-path_to c =
+    rw c.in-UnknownAliasTarget.is (record { said = c.lexeme-text.result; path = c.in-Ok-path_to.target; is = refl; has_text = search rules; has_path = search rules })
 
-pub returns-in-Ok-from_name-2 : goal.returns-in-Ok-from_name-2
-returns-in-Ok-from_name-2 c =
-    rw c.in-UnknownDependency.is (record { said = c.lexeme-in-Ok-from_name-2.result; path = c.in-Ok-from_name-2.unknown; is = refl; has_text = search rules; has_path = search rules })
+pub returns-in-Ok-path_to-2 : goal.returns-in-Ok-path_to-2
+returns-in-Ok-path_to-2 c =
+    rw c.in-UnknownDependency.is (record { said = c.lexeme-in-Ok-path_to-2.result; path = c.in-Ok-path_to-2.unknown; is = refl; has_text = search rules; has_path = search rules })
 
 pub returns-in-InvalidShellRecipeAttribute : goal.returns-in-InvalidShellRecipeAttribute
 returns-in-InvalidShellRecipeAttribute c = rw c.in-InvalidShellRecipeAttribute.is (record { said = c.lexeme-text.result; is = refl; has = search rules })

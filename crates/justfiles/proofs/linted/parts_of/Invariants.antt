@@ -5,4 +5,4 @@ use Rattle.justfiles.specs.Linted.{IsPart}
 use Rattle.justfiles.proofs.linted.parts_of.Given as goal
 
 abbrev pub invariant-loop-file : goal.invariant-loop-file
-invariant-loop-file l = AllZip IsPart (sources (take l.file-index l.files)) l.parts.items
+invariant-loop-file g l = AllZip (IsPart g.F.Folders.has) (sources (take l.file-index l.files)) l.parts.items

@@ -1,6 +1,0 @@
-use Rattle.std.proofs.Common.{◌≡◌, take}
-use Rattle.justfile_problem_lines.specs.Modules.{edges_in}
-use Rattle.justfile_problem_lines.proofs.module.edges_in.Given as goal
-
-abbrev pub invariant-loop-link : goal.invariant-loop-link
-invariant-loop-link l = l.edges.items ≡ edges_in (take l.link-index l.links)
