@@ -12,7 +12,7 @@ use Rattle.justfile_model.specs.Lexing.BlankLines.{is_blank_or_line_end}
 use Rattle.editor_language.specs.declared.parts.Known.{Known}
 use Rattle.justfile_ast.specs.declared.ast.Ast.{Ast}
 use Rattle.justfile_canonical.specs.Root.{IsRoot, conditions}
-use Rattle.justfile_parts.specs.Parts.{IsPart}
+use Rattle.justfile_canonical.specs.Parsing.{IsPart}
 use Rattle.justfile_recovery.specs.Starts.{is_start}
 use Rattle.justfile_analysis.specs.Ends.{IsEnd, IsStop}
 use Rattle.justfile_analysis.specs.Parts as parts

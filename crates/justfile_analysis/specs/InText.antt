@@ -14,7 +14,7 @@ abbrev pub moved_span : (base : ℕ) → Span → Span
 moved_span base s = record { start = moved_offset base s.start; end = moved_offset base s.end }
 
 abbrev pub moved_shown : (base : ℕ) → Shown → Shown
-moved_shown base s = record { name = s.name; kind = s.kind; place = moved_span base s.place }
+moved_shown base s = record { name = s.name; kind = s.kind; link = s.link; place = moved_span base s.place }
 
 -- what is shown of a part that begins at an offset
 abbrev pub shown_in : (start : ℕ) → Known → List Shown

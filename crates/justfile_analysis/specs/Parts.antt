@@ -11,7 +11,7 @@ use Rattle.justfile_token.specs.declared.fault.Fault.TheVariants.{Compile, Memor
 use Rattle.justfile_spans.specs.declared.span.Span as texts
 use Rattle.justfile_model.specs.Lexing.BlankLines.{is_blank_or_line_end}
 use Rattle.justfile_ast.specs.declared.ast.Ast.{Ast}
-use Rattle.justfile_parts.specs.Parts.{IsPart}
+use Rattle.justfile_canonical.specs.Parsing.{IsPart}
 use Rattle.justfile_canonical.specs.Root.{HasNoRoot, IsRoot, conditions}
 use Rattle.justfile_recovery.specs.Starts.{is_start}
 use Rattle.justfile_survey.specs.Errors.{IsPlaceOf, names_lines}

@@ -6,7 +6,7 @@ ghost use Rattle.justfile_analysis.specs.Parts.{IsAttempt, IsFound, IsPartOf, Te
 
 use crate::ends::{end_after, first_end, further_end};
 use crate::reading::{read_rest, read_up_to};
-use crate::rejection::{Rejection, rejection_of};
+use crate::rejection::{Rejection, certain_cause, rejection_of};
 use crate::wrong::refused_part;
 use editor_language::Known;
 use std::alloc::{AllocError, Global};
@@ -96,9 +96,14 @@ fn go_on(
     requires rejected { TellsWhy (read_of text.now start end) rejection.problem }
     ensures { IfOk result (IsAttempt text.now start end) }
 {
-    match end_after(text.as_bytes(), start, end, step, rejection.cause) {
+    let cause = certain_cause(alloc, text, start, end, rejection.cause)?;
+    match end_after(text.as_bytes(), start, end, step, cause) {
         Some(further) => Ok(Attempt::Further(further)),
         None => {
+            let rejection = Rejection {
+                problem: rejection.problem,
+                cause,
+            };
             let part = refused_part(alloc, text, start, end, step, rejection)?;
             Ok(Attempt::Found(part))
         }

@@ -56,9 +56,7 @@ pub(crate) fn end_after(
 {
     match cause {
         Cause::Error => None,
-        Cause::EarlyEnd => Some(further_end(bytes, start, end, step)),
-        Cause::OpenInterpolation if step < STEPS => Some(part_end(bytes, end, JOINED)),
-        Cause::OpenInterpolation => None,
+        Cause::EarlyEnd | Cause::OpenInterpolation => { Some(further_end(bytes, start, end, step)) }
         Cause::OpenLiteral(at) => {
             let at = read_start(start).saturating_add(at);
             end_past_literal(bytes, start, end, step, at)
@@ -76,10 +74,25 @@ fn end_past_literal(bytes: &[u8], start: usize, end: usize, step: usize, at: usi
     match bytes.get(at) {
         Some(quote) if is_quote(*quote) => {
             let closed = closing_quote(bytes, end, *quote, quote_length(bytes, at, *quote))?;
-            Some(next_start(bytes, closed + 1))
+            Some(next_start(bytes, past_literal(bytes, start, end, step, closed)))
         }
         _ => Some(further_end(bytes, start, end, step)),
     }
+}
+
+/// Returns an offset after a literal that is closed at one: twice as far as an end, if many were tried.
+fn past_literal(bytes: &[u8], start: usize, end: usize, step: usize, closed: usize) -> usize
+    requires forward { start ≤ end }
+    requires after { end ≤ closed }
+    requires within { closed < length bytes.now }
+    ensures after { end < result }
+    ensures within { result ≤ length bytes.now }
+{
+    let after = closed + 1;
+    if step < STEPS {
+        return after;
+    }
+    after.max(end.saturating_add(end - start)).min(bytes.len())
 }
 
 /// Whether a byte is a quote or a backtick.

@@ -1,6 +1,6 @@
 //! Items as an editor is shown them.
 ghost use Rattle.std.specs.Prelude.{◌≡◌, IfOk, map};
-ghost use Rattle.justfile_analysis.specs.Shown.{editor_span, kind_of, shown, surveyed};
+ghost use Rattle.justfile_analysis.specs.Shown.{editor_span, is_import, kind_of, shown, surveyed};
 
 use editor_language::{Item, Span};
 use editor_messages::SymbolKind;
@@ -31,11 +31,18 @@ fn item_of(item: &SurveyedItem) -> Result<Item, AllocError>
     Ok(Item {
         name,
         kind: kind_of(item.kind),
-        is_link: item.kind == ItemKind::Import,
+        is_link: is_import(item.kind),
         span: editor_span(item.span),
         name_span: editor_span(item.name_span),
         body,
     })
+}
+
+/// Whether an item of a kind is a link to a file by itself: an import.
+fn is_import(kind: ItemKind) -> bool
+    ensures { result ≡ is_import kind }
+{
+    matches!(kind, ItemKind::Import)
 }
 
 /// Returns a span as an editor is shown it.

@@ -2,7 +2,7 @@
 ghost use Rattle.std.specs.Prelude.{◌≡◌, ◌<◌, ◌-◌, IfOk, IfSome, drop, length, nat_eq, take};
 ghost use Rattle.text_parts.specs.Places.{IsPartStart};
 ghost use Rattle.justfile_canonical.specs.Root.{conditions};
-ghost use Rattle.justfile_parts.specs.Parts.{IsPart};
+ghost use Rattle.justfile_canonical.specs.Parsing.{IsPart};
 ghost use Rattle.justfile_analysis.specs.Ends.{IsEnd};
 ghost use Rattle.justfile_analysis.specs.Parts.{IsFound, IsRead, IsRight};
 
@@ -12,9 +12,8 @@ use crate::wrong::refused_part;
 use editor_language::Known;
 use justfile_ast::Ast;
 use justfile_canonical::reading::{Query, query_root, release};
+use justfile_canonical::{RECURSION_LIMIT, parse_part};
 use justfile_numbers::Version;
-use justfile_parse::RECURSION_LIMIT;
-use justfile_parts::parse_part;
 use justfile_recovery::without_blank_lines;
 use justfile_spans::Span;
 use justfile_survey::items_of_file;

@@ -10,7 +10,6 @@ use crate::reading::read_start;
 use editor_language::{PartProblem, Span};
 use justfile_ast::Ast;
 use justfile_canonical::reading::{Query, query_root};
-use justfile_recovery::line_feeds;
 use justfile_survey::{message_in_text, names_lines, place_of_error};
 use justfile_token::{CompileError, CompileErrorKind, Fault};
 use justfile_vocabulary::TokenKind;
@@ -121,6 +120,50 @@ fn cause_of(error: &CompileError<'_>) -> Cause {
     }
 }
 
+/// Returns what can be done about the rejection of what is in a text from an offset up to an end, which
+/// has this cause: nothing, if what is before the open literal or in the open interpolation is wrong
+/// already.
+pub(crate) fn certain_cause(
+    alloc: Global,
+    text: &str,
+    start: usize,
+    end: usize,
+    cause: Cause,
+) -> Result<Cause, AllocError> {
+    let from = read_start(start);
+    let is_wrong = match cause {
+        Cause::Error | Cause::EarlyEnd => false,
+        Cause::OpenLiteral(at) => is_wrong(alloc, text.get(from..from.saturating_add(at)))?,
+        Cause::OpenInterpolation => is_wrong_if_closed(alloc, text.get(from..end))?,
+    };
+    Ok(if is_wrong { Cause::Error } else { cause })
+}
+
+/// Whether a text is wrong, whatever follows it.
+fn is_wrong(alloc: Global, text: Option<&str>) -> Result<bool, AllocError> {
+    let Some(text) = text else {
+        return Ok(false);
+    };
+    match query_root(alloc, "justfile", text, &NoQuery) {
+        Err(Fault::Compile(error)) => Ok(matches!(cause_of(&error), Cause::Error)),
+        Err(Fault::Memory) => Err(AllocError),
+        Ok(()) | Err(Fault::Numbers) => Ok(false),
+    }
+}
+
+/// Whether a text that ends in an interpolation is wrong before its end, once that is closed there.
+fn is_wrong_if_closed(alloc: Global, text: Option<&str>) -> Result<bool, AllocError> {
+    let Some(text) = text else {
+        return Ok(false);
+    };
+    let closed = format!(in alloc; "{text}}}}}")?;
+    match query_root(alloc, "justfile", closed.as_str(), &NoQuery) {
+        Err(Fault::Compile(error)) => Ok(error.token.offset < text.len()),
+        Err(Fault::Memory) => Err(AllocError),
+        Ok(()) | Err(Fault::Numbers) => Ok(false),
+    }
+}
+
 /// Returns the rejection of a text for which numbers don't suffice.
 fn out_of_numbers(alloc: Global) -> Result<Rejection, AllocError>
     ensures { IfOk result (λ rejection. IsOfNumbers rejection.problem) }
@@ -136,21 +179,20 @@ fn out_of_numbers(alloc: Global) -> Result<Rejection, AllocError>
 }
 
 /// Returns the message of a problem that names lines, for what was read from an offset up to an end: with
-/// the lines of the whole text.
+/// the lines of the whole text, of which so many are before it.
 pub(crate) fn message_after(
     alloc: Global,
     text: &str,
     base: usize,
     end: usize,
+    lines: usize,
     problem: &PartProblem,
 ) -> Result<String, AllocError> {
-    let (Some(before), Some(read)) = (text.get(..base), text.get(base..end.min(text.len()))) else {
+    let Some(read) = text.get(base..end.min(text.len())) else {
         return problem.message.clone();
     };
     match query_root(alloc, "justfile", read, &NoQuery) {
-        Err(Fault::Compile(mut error)) => {
-            message_in_text(alloc, &mut error, line_feeds(before.as_bytes()))
-        }
+        Err(Fault::Compile(mut error)) => message_in_text(alloc, &mut error, lines),
         Err(Fault::Memory) => Err(AllocError),
         Ok(()) | Err(Fault::Numbers) => problem.message.clone(),
     }

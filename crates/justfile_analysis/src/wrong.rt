@@ -15,16 +15,20 @@ use std::alloc::{AllocError, Global};
 use text_parts::Part;
 
 /// Returns the part of a text that begins at an offset and is rejected up to an end. What is in the
-/// lines before its error is known. It ends where an item may begin after the error.
+/// lines before its error is known. It ends where an item may begin after the error. The text was read
+/// up to `read`.
 fn wrong_part(
     alloc: Global,
     text: &str,
     start: usize,
     end: usize,
+    read: usize,
     rejection: Rejection,
 ) -> Result<Part<Known>, AllocError>
     requires start { IsPartStart text.now start }
     requires end { IsEnd text.now start end }
+    requires forward { end ≤ read }
+    requires within { read ≤ length text.now }
     requires rejected { TellsWhy (read_of text.now start end) rejection.problem }
     ensures { IfOk result (IsFound text.now start) }
 {
@@ -33,7 +37,7 @@ fn wrong_part(
     let next = next_part(text.as_bytes(), start, at, end);
     Ok(Part {
         size: next - start,
-        reach: reach_of(text, start, end, rejection.cause),
+        reach: reach_of(text, start, end, read),
         known: Known {
             items,
             problem: Some(rejection.problem),
@@ -57,10 +61,11 @@ pub(crate) fn refused_part(
     requires rejected { TellsWhy (read_of text.now start end) rejection.problem }
     ensures { IfOk result (IsFound text.now start) }
 {
+    let read = read_end(text, end, rejection.cause);
     let first = first_end(text.as_bytes(), start);
     match open_literal(alloc, text, start, first, step)? {
-        Some(literal) => wrong_part(alloc, text, start, first, literal),
-        None => wrong_part(alloc, text, start, end, rejection),
+        Some(literal) => wrong_part(alloc, text, start, first, read.max(first), literal),
+        None => wrong_part(alloc, text, start, end, read, rejection),
     }
 }
 
@@ -122,17 +127,19 @@ fn next_part(bytes: &[u8], start: usize, at: usize, end: usize) -> usize
     next_start(bytes, from).min(end)
 }
 
-/// Returns how many bytes from its beginning on were read of a part that is rejected up to an end.
-fn reach_of(text: &str, start: usize, end: usize, cause: Cause) -> usize
-    requires forward { start ≤ end }
-    requires within { end ≤ length text.now }
+/// Returns how many bytes from its beginning on were read of a part that is rejected up to an end,
+/// where the text was read up to `read`.
+fn reach_of(text: &str, start: usize, end: usize, read: usize) -> usize
+    requires begins { start ≤ end }
+    requires forward { end ≤ read }
+    requires within { read ≤ length text.now }
     ensures { end < start + result }
 {
-    read_end(text, end, cause) - start + 1
+    read - start + 1
 }
 
 /// Returns up to where a text was read, of which a part is rejected up to an end. For the end of a
-/// literal all of the text is looked through.
+/// literal all of the text is looked through in vain.
 fn read_end(text: &str, end: usize, cause: Cause) -> usize
     requires { end ≤ length text.now }
     ensures forward { end ≤ result }

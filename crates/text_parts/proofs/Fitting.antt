@@ -1,5 +1,5 @@
 -- Parts that were found so far, and those from there on, are parts of a text.
-use Rattle.std.proofs.Common.{◌≡◌, ◌∙◌, ℕ, zero, suc, ◌+◌, ◌-◌, ◌<◌, ◌≤◌, ◌≢◌, true, false, List, [], ◌∷◌, ◌++◌, length, drop, inl, inr, refl, sym, ap, subst, arith, append_assoc}
+use Rattle.std.proofs.Common.{◌≡◌, ◌∙◌, ℕ, zero, suc, ◌+◌, ◌-◌, ◌<◌, ◌≢◌, true, false, List, [], ◌∷◌, ◌++◌, length, drop, inl, inr, refl, sym, ap, subst, arith, append_assoc}
 use Rattle.std.specs.Prelude.{nat_eq}
 use Rattle.std.proofs.lemmas.Bool.Decides.{nat_tests}
 use Rattle.std.proofs.lemmas.List.{drop-drop, length-drop}
@@ -75,10 +75,11 @@ module _ {K : Type 0} (is_part : IsPart K) (text : List ℕ) where
 -- A part that was found is one after other ones too.
 pub found_after : {K : Type 0} (is_part : IsPart K) (text : List ℕ) (kept old new : List (Part K)) (at end : ℕ) → IsFound is_part text at old new end
     → IsFound is_part text at (kept ++ old) (kept ++ new) end
-found_after is_part text kept old new at end f = record {
-  part = f.part;
-  appended = ap (λ l. kept ++ l) f.appended ∙ sym (append_assoc kept old (f.part ∷ []));
-  next = f.next;
-  end_is = f.end_is;
-  ends = f.ends;
-}
+found_after is_part text kept old new at end f = search (ap (λ l. kept ++ l) f.appended ∙ sym (append_assoc kept old (f.part ∷ [])), f)
+
+-- One more part was found after other ones, and the text goes on at the next place.
+pub begun_after : {K : Type 0} (is_part : IsPart K) (text : List ℕ) (kept old new : List (Part K)) (at end next : ℕ) → IsBegun is_part text (kept ++ old) at
+    → IsFound is_part text at old new end → end ≢ length text → next ≡ end → IsBegun is_part text (kept ++ new) next
+begun_after is_part text kept old new at end next b f h e =
+    subst (IsBegun is_part text (kept ++ new)) (sym e)
+    (begun_more is_part text (kept ++ old) (kept ++ new) at end b (found_after is_part text kept old new at end f) h)

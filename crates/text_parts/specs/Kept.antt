@@ -1,8 +1,8 @@
 -- Which parts of an old text are kept.
-use Rattle.std.specs.Prelude.{◌≡◌, ℕ, ◌+◌, ◌-◌, ◌<◌, ◌≤◌, List, [], ◌∷◌, ◌++◌, length, drop}
-use Rattle.text_parts.specs.Parts.{AreFrom, IsPart}
+use Rattle.std.specs.Prelude.{◌≡◌, ℕ, ◌+◌, ◌<◌, ◌≤◌, true, List, [], ◌∷◌, ◌++◌, Option, Some, None, take, drop}
+use Rattle.text_parts.specs.Parts.{AreFrom, AreParts, IsPart}
 use Rattle.text_parts.specs.Places.{IsLineStart, IsPartStart}
-use Rattle.text_parts.specs.declared.after.Place.{Place}
+use Rattle.text_parts.specs.declared.after.Front.{Front}
 use Rattle.text_parts.specs.declared.part.Part.{Part}
 
 -- A part with this start isn't empty, ends where a line of the text begins, and was found in what both texts begin with.
@@ -22,7 +22,17 @@ abbrev pub AreLeft : {K : Type 0} → IsPart K → List ℕ → ℕ → List (Pa
 AreLeft is_part text at [] = Unit {0}
 AreLeft is_part text at (part ∷ parts) = AreFrom is_part text at (part ∷ parts)
 
--- The parts of the old text from an index on begin where so many of its bytes are left.
-pub record AreOld {K : Type 0} (is_part : IsPart K) (old_text : List ℕ) (parts : List (Part K)) (place : Place) : Type 0 where
-  pub within : place.left ≤ length old_text
-  pub left : AreLeft is_part old_text (length old_text - place.left) (drop place.index parts)
+-- The first parts are those of the text up to an offset, and the others are those of the old text from there on.
+pub record IsFront {K : Type 0} (is_part : IsPart K) (old_text text : List ℕ) (parts : List (Part K)) (front : Front) : Type 0 where
+  pub begun : IsBegun is_part text (take front.count parts) front.end
+  pub left : AreLeft is_part old_text front.end (drop front.count parts)
+
+-- The first parts are those of the text, or all are.
+abbrev pub IsFrontOrAll : {K : Type 0} → IsPart K → (old_text text : List ℕ) → List (Part K) → Option Front → Type 0
+IsFrontOrAll is_part old_text text parts None = AreParts is_part true text parts
+IsFrontOrAll is_part old_text text parts (Some front) = IsFront is_part old_text text parts front
+
+-- With the others after them these are the parts of the text. Or they are those up to an offset, and the others those of the old text from there on.
+abbrev pub IsJoined : {K : Type 0} → IsPart K → (old_text text : List ℕ) → (done others : List (Part K)) → Option ℕ → Type 0
+IsJoined is_part old_text text done others None = AreParts is_part true text (done ++ others)
+IsJoined is_part old_text text done others (Some at) = IsBegun is_part text done at × AreLeft is_part old_text at others

@@ -1,6 +1,6 @@
 //! The parts of a text after a change.
-ghost use Rattle.std.specs.Prelude.{◌≡◌, ℕ, ◌-◌, ◌≤◌, ◌++◌, List, IfOk, IfSome, IsTrue, drop, length, take, true};
-ghost use Rattle.text_parts.specs.Kept.{AreLeft, AreOld, IsBegun, IsKeptTo};
+ghost use Rattle.std.specs.Prelude.{◌≡◌, ℕ, ◌<◌, ◌≤◌, ◌++◌, List, IfOk, IfSome, IsTrue, drop, length, true};
+ghost use Rattle.text_parts.specs.Kept.{AreLeft, IsBegun, IsFront, IsFrontOrAll, IsJoined, IsKeptTo};
 ghost use Rattle.text_parts.specs.Parts.{AreParts};
 ghost use Rattle.text_parts.specs.Places.{IsLineStart, IsPartStart};
 ghost use Rattle.text_parts.specs.Shared.{IsShared};
@@ -30,19 +30,18 @@ pub fn parts_after<C: Cut>(
 {
     let shared = Shared::between(old_text.as_bytes(), text.as_bytes());
     let mut parts = old;
-    let kept = kept_front::<C>(&parts, text, shared);
-    let place = Place {
-        at: kept.end,
-        index: kept.count,
-        left: old_text.len().saturating_sub(kept.end),
-    };
-    let mut found = Vec::new(alloc);
-    let index = find_until(cut, alloc, text, &parts, shared, place, &mut found)?;
-    parts.splice(kept.count..index, found)?;
-    Ok(parts)
+    let mut front = Front { count: 0, end: 0 };
+    'stretches: loop {
+        front = kept_from::<C>(&parts, text, shared, front);
+        match find_stretch(cut, alloc, text, shared, &mut parts, front)? {
+            Some(next) => front = next,
+            None => return Ok(parts),
+        }
+    }
 }
 
-/// The first parts of an old text, which are kept.
+/// The first parts, which are those of the text already. The others are those of the old text from
+/// the same offset on.
 #[derive(Clone, Copy)]
 struct Front {
     /// How many they are.
@@ -51,29 +50,32 @@ struct Front {
     end: usize,
 }
 
-/// Returns which first parts of an old text are kept: those that were found in what both texts begin
-/// with, as long as a line begins after each.
-fn kept_front<C: Cut>(parts: &[Part<C::Known>], text: &str, shared: Shared) -> Front
-    ensures count { result.count ≤ length parts.now }
+/// Adds the next parts of the old text to the first ones, which are kept: those that were found in
+/// what both texts begin with, as long as a line begins after each.
+fn kept_from<C: Cut>(
+    parts: &[Part<C::Known>],
+    text: &str,
+    shared: Shared,
+    mut front: Front,
+) -> Front
+    requires start { IsPartStart text.now front.end }
+    requires count { front.count ≤ length parts.now }
     ensures start { IsPartStart text.now result.end }
-    ensures begun { (old_text : List ℕ) → IsShared old_text text.now shared
-        → AreParts C.is_part true old_text parts.now
-        → IsBegun C.is_part text.now (take result.count parts.now) result.end }
-    ensures left { (old_text : List ℕ) → IsShared old_text text.now shared
-        → AreParts C.is_part true old_text parts.now
-        → AreLeft C.is_part old_text result.end (drop result.count parts.now) }
+    ensures count { result.count ≤ length parts.now }
+    ensures after { front.end ≤ result.end }
+    ensures are { (old_text : List ℕ) → IsShared old_text text.now shared
+        → IsFront C.is_part old_text text.now parts.now front
+        → IsFront C.is_part old_text text.now parts.now result }
 {
-    let mut end = 0;
-    for (count, part) in parts.iter().enumerate() {
-        match kept_end(part, end, text.as_bytes(), shared.front) {
-            Some(next) => end = next,
-            None => return Front { count, end },
-        }
+    'kept: while front.count < parts.len() {
+        let part = &parts[front.count];
+        let Some(end) = kept_end(part, front.end, text.as_bytes(), shared.front) else {
+            break;
+        };
+        front.count += 1;
+        front.end = end;
     }
-    Front {
-        count: parts.len(),
-        end,
-    }
+    front
 }
 
 /// Returns where a part of an old text, which begins at an offset, ends, if it is kept.
@@ -95,6 +97,50 @@ fn is_line_start(text: &[u8], at: usize) -> bool
     at > 0 && at < text.len() && text[at - 1] == b'\n'
 }
 
+/// Finds parts in place of those of the old text, after the first ones, until one would begin where a
+/// part of the old text begins that may be kept. Returns which parts are the first ones then, or
+/// nothing if all others are those of the text, too.
+///
+/// # Errors
+///
+/// Memory ran out.
+fn find_stretch<C: Cut>(
+    cut: &C,
+    alloc: Global,
+    text: &str,
+    shared: Shared,
+    parts: &mut Vec<Part<C::Known>>,
+    front: Front,
+) -> Result<Option<Front>, AllocError>
+    requires start { IsPartStart text.now front.end }
+    requires count { front.count ≤ length parts.old.items }
+    ensures start { IfOk result (λ next. IfSome next (λ n. IsPartStart text.now n.end)) }
+    ensures count { IfOk result (λ next. IfSome next (λ n. n.count ≤ length parts.new.items)) }
+    ensures after { IfOk result (λ next. IfSome next (λ n. front.end < n.end)) }
+    ensures are { (old_text : List ℕ) → IsShared old_text text.now shared
+        → IsFront C.is_part old_text text.now parts.old.items front
+        → IfOk result (IsFrontOrAll C.is_part old_text text.now parts.new.items) }
+{
+    let mut found = Vec::new(alloc);
+    let joint = find_until(cut, alloc, text, parts, shared, front, &mut found)?;
+    let count = front.count + found.len();
+    parts.splice(front.count..joint.index, found)?;
+    Ok(match joint.next {
+        Some(end) => Some(Front { count, end }),
+        None => None,
+    })
+}
+
+/// Where parts that were found meet parts of the old text.
+#[derive(Clone, Copy)]
+struct Joint {
+    /// The index of the part of the old text that comes next.
+    index: usize,
+    /// The offset at which it begins in both texts, if it comes before the change: otherwise it and
+    /// all after it are kept.
+    next: Option<usize>,
+}
+
 /// Where the next part is sought.
 #[derive(Clone, Copy)]
 struct Place {
@@ -102,13 +148,13 @@ struct Place {
     at: usize,
     /// The index of the part of the old text that may be kept next.
     index: usize,
-    /// How many bytes of the old text are left where that part begins.
-    left: usize,
+    /// The offset at which that part begins in the old text.
+    from: usize,
 }
 
-/// Finds parts of a text until one would begin where what is left of the text is left of the old one
-/// too, with the line feed before it, and a part of the old text begins. Appends them to those that
-/// were found, and returns the index of that one, or how many there are if there is none.
+/// Finds parts of a text, at least one, until one would begin where a part of the old text begins:
+/// before the change, or where both texts go on the same, with the line feed before it. Appends them
+/// to those that were found.
 ///
 /// # Errors
 ///
@@ -119,48 +165,62 @@ fn find_until<C: Cut>(
     text: &str,
     parts: &[Part<C::Known>],
     shared: Shared,
-    mut place: Place,
+    front: Front,
     found: &mut Vec<Part<C::Known>>,
-) -> Result<usize, AllocError>
-    requires start { IsPartStart text.now place.at }
-    requires index { place.index ≤ length parts.now }
-    ensures after { IfOk result (λ index. place.index ≤ index) }
-    ensures within { IfOk result (λ index. index ≤ length parts.now) }
+) -> Result<Joint, AllocError>
+    requires start { IsPartStart text.now front.end }
+    requires count { front.count ≤ length parts.now }
+    ensures after { IfOk result (λ joint. front.count ≤ joint.index) }
+    ensures within { IfOk result (λ joint. joint.index ≤ length parts.now) }
+    ensures start { IfOk result (λ joint. IfSome joint.next (IsPartStart text.now)) }
+    ensures some { IfOk result (λ joint. IfSome joint.next (λ at. front.end < at)) }
     ensures whole { (old_text : List ℕ) (kept : List (PartOf C.Known))
         → IsShared old_text text.now shared
-        → IsBegun C.is_part text.now (kept ++ found.old.items) place.at
-        → AreOld C.is_part old_text parts.now place
-        → IfOk result (λ index. AreParts C.is_part true text.now
-        (kept ++ found.new.items ++ drop index parts.now)) }
+        → IsBegun C.is_part text.now (kept ++ found.old.items) front.end
+        → AreLeft C.is_part old_text front.end (drop front.count parts.now)
+        → IfOk result (λ joint. IsJoined C.is_part old_text text.now (kept ++ found.new.items)
+        (drop joint.index parts.now) joint.next) }
 {
+    let mut place = Place {
+        at: front.end,
+        index: front.count,
+        from: front.end,
+    };
     'parts: loop {
-        let left = text.len() - place.at;
-        place = passed::<C>(parts, place, left);
-        if place.index < parts.len() && place.left == left && left < shared.end {
-            return Ok(place.index);
-        }
         place.at = find_part(cut, alloc, text, place.at, found)?;
         if place.at == text.len() {
-            return Ok(parts.len());
+            let index = parts.len();
+            return Ok(Joint { index, next: None });
+        }
+        place = passed::<C>(parts, place, shared);
+        let index = place.index;
+        if index < parts.len() && shared.is_same_end(place.from, place.at) {
+            return Ok(Joint { index, next: None });
+        }
+        if place.from == place.at && place.at < shared.front {
+            let next = Some(place.at);
+            return Ok(Joint { index, next });
         }
     }
 }
 
-/// Passes the parts of the old text that begin where more than so many of its bytes are left.
-fn passed<C: Cut>(parts: &[Part<C::Known>], mut place: Place, left: usize) -> Place
+/// Passes the parts of the old text that begin before what begins at a place.
+fn passed<C: Cut>(parts: &[Part<C::Known>], mut place: Place, shared: Shared) -> Place
     requires { place.index ≤ length parts.now }
     ensures at { result.at ≡ place.at }
     ensures after { place.index ≤ result.index }
     ensures within { result.index ≤ length parts.now }
-    ensures old { (old_text : List ℕ) → AreOld C.is_part old_text parts.now place
-        → AreOld C.is_part old_text parts.now result }
+    ensures left { (old_text : List ℕ)
+        → AreLeft C.is_part old_text place.from (drop place.index parts.now)
+        → AreLeft C.is_part old_text result.from (drop result.index parts.now) }
 {
-    'old: while place.left > left {
-        let Some(part) = parts.get(place.index) else {
+    'old: while place.index < parts.len() && shared.is_before(place.from, place.at) {
+        let part = &parts[place.index];
+        let Some(from) = place.from.checked_add(part.size) else {
             break;
         };
         place.index += 1;
-        place.left = place.left.saturating_sub(part.size);
+        place.from = from;
     }
     place
 }

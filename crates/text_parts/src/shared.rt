@@ -1,23 +1,47 @@
 //! What two texts have in common.
-ghost use Rattle.std.specs.Prelude.{◌≡◌, ℕ, List, ◌-◌, ◌≤◌, drop, length, take};
-ghost use Rattle.text_parts.specs.Shared.{IsShared};
+ghost use Rattle.std.specs.Prelude.{◌≡◌, ℕ, List, IsTrue, ◌-◌, ◌≤◌, drop, length, take};
+ghost use Rattle.text_parts.specs.Shared.{IsSameEnd, IsShared};
 
-/// How many bytes two texts begin with, and how many they end with, that are the same.
+/// What two texts begin with that is the same, and what they end with. These may overlap.
 #[derive(Clone, Copy)]
 pub(crate) struct Shared {
+    /// How many bytes they begin with that are the same.
     pub(crate) front: usize,
-    pub(crate) end: usize,
+    /// The offset in the old text from which on both are the same.
+    pub(crate) old_end: usize,
+    /// The offset in the new text from which on both are the same.
+    pub(crate) new_end: usize,
 }
 
 impl Shared {
-    /// Returns what two texts have in common. Its front and its end may overlap.
+    /// Returns what two texts have in common.
     pub(crate) fn between(old: &[u8], new: &[u8]) -> Shared
         ensures { IsShared old.now new.now result }
     {
         let shorter = old.len().min(new.len());
+        let end = equal_end(old, new, shorter);
         Shared {
             front: equal_front(old, new, shorter),
-            end: equal_end(old, new, shorter),
+            old_end: old.len() - end,
+            new_end: new.len() - end,
+        }
+    }
+
+    /// Whether the texts go on the same from an offset of the old one and an offset of the new one,
+    /// with the byte before these.
+    pub(crate) fn is_same_end(self, from: usize, at: usize) -> bool
+        ensures { IsTrue result → IsSameEnd self from at }
+    {
+        from > self.old_end && at > self.new_end && from - self.old_end == at - self.new_end
+    }
+
+    /// Whether an offset of the old text comes before an offset of the new one, by what they end with,
+    /// or else by what they begin with.
+    pub(crate) fn is_before(self, from: usize, at: usize) -> bool {
+        if at > self.new_end {
+            from.saturating_sub(self.old_end) < at - self.new_end
+        } else {
+            at < self.front && from < at
         }
     }
 }
