@@ -16,12 +16,16 @@ use Rattle.editor_language.specs.declared.parts.Choices.{Choices}
 use Rattle.editor_language.specs.declared.parts.FileLink.{FileLink}
 use Rattle.editor_language.specs.declared.parts.Item.{Item}
 use Rattle.editor_language.specs.declared.parts.QuickFix.{QuickFix}
+use Rattle.editor_language.specs.declared.parts.Run.{Run}
+use Rattle.editor_messages.specs.declared.answer.Signature.{Signature}
+use Rattle.editor_answers.specs.Called.{Signs}
 use Rattle.editor_answers.specs.Fixes.{FixesIn}
 use Rattle.editor_answers.specs.Formatting.{Formats, FormatsRange}
 use Rattle.editor_answers.specs.Links.{LinksIn}
 use Rattle.editor_answers.specs.Names.{Bounds, Describes, IsDefinedAt, Lights, Locates, definitions_of, mentions_of}
 use Rattle.editor_answers.specs.Ranges.{fold_of, range_of, shown, to_show}
 use Rattle.editor_answers.specs.Renames.{Declines, Renames}
+use Rattle.editor_answers.specs.Runs.{RunsIn}
 use Rattle.editor_answers.specs.declared.failure.Failure.{Failure}
 use Rattle.editor_answers.specs.declared.failure.Failure.TheVariants.{Memory, Refused}
 
@@ -101,22 +105,24 @@ module _ (knows : List ℕ → Analysis → Type 0) (mentioned : List ℕ → An
 
   -- The answer to what is asked for about a text: its symbols and what can be folded are the items; formatting leads to its formatted text, or keeps that; what is told about the name
   -- at a position is about its mentions in the text; a new name is put in the place of each of these and nowhere else, and changes no other one; the links, what can be written
-  -- at a position, and what sets right what is wrong in a range, are those of the language. What other answers hold is left open.
-  abbrev pub IsAnswer : (formats : List ℕ → List ℕ → Type 0) (unformatted names : List ℕ → Type 0) (linked : Option (List ℕ) → List ℕ → Analysis → List FileLink → Type 0) (completed : List ℕ → List Mention → ℕ → Choices → Type 0) (fixed : List ℕ → List ℕ → Analysis → List QuickFix → Type 0) → Query → Answer → Type 0
-  IsAnswer formats unformatted names linked completed fixed queries.Symbols answer = ShowsItems encoding text analysis.items.items answer
-  IsAnswer formats unformatted names linked completed fixed queries.Folds answer = ShowsFolds encoding text analysis.items.items answer
-  IsAnswer formats unformatted names linked completed fixed queries.Format answer = Formats formats unformatted encoding text answer
-  IsAnswer formats unformatted names linked completed fixed (queries.FormatRange range) answer = FormatsRange formats unformatted encoding text answer
-  IsAnswer formats unformatted names linked completed fixed (queries.Definition position) answer = Tells (queries.Definition position) answer
-  IsAnswer formats unformatted names linked completed fixed (queries.References position all) answer = Tells (queries.References position all) answer
-  IsAnswer formats unformatted names linked completed fixed (queries.PrepareRename position) answer = Tells (queries.PrepareRename position) answer
-  IsAnswer formats unformatted names linked completed fixed (queries.Rename position new) answer = Replaces names analysis new.now (Tells (queries.Rename position new) answer)
-  IsAnswer formats unformatted names linked completed fixed (queries.Highlights position) answer = Tells (queries.Highlights position) answer
-  IsAnswer formats unformatted names linked completed fixed (queries.Hover position) answer = Hovers mentioned completed encoding text analysis position answer
-  IsAnswer formats unformatted names linked completed fixed queries.Links answer = LinksIn linked encoding uri text analysis answer
-  IsAnswer formats unformatted names linked completed fixed (queries.Complete position) answer = Completes mentioned completed encoding text analysis position answer
-  IsAnswer formats unformatted names linked completed fixed (queries.Fixes range) answer = FixesIn fixed encoding uri text analysis range answer
-  IsAnswer formats unformatted names linked completed fixed other answer = Unit {0}
+  -- at a position, what sets right what is wrong in a range, what is called at a position, and what can be run, are those of the language. What other answers hold is left open.
+  abbrev pub IsAnswer : (formats : List ℕ → List ℕ → Type 0) (unformatted names : List ℕ → Type 0) (linked : Option (List ℕ) → List ℕ → Analysis → List FileLink → Type 0) (completed : List ℕ → List Mention → ℕ → Choices → Type 0) (fixed : List ℕ → List ℕ → Analysis → List QuickFix → Type 0) (signed : List ℕ → List Mention → ℕ → Option Signature → Type 0) (runs : List ℕ → Analysis → List Run → Type 0) → Query → Answer → Type 0
+  IsAnswer formats unformatted names linked completed fixed signed runs queries.Symbols answer = ShowsItems encoding text analysis.items.items answer
+  IsAnswer formats unformatted names linked completed fixed signed runs queries.Folds answer = ShowsFolds encoding text analysis.items.items answer
+  IsAnswer formats unformatted names linked completed fixed signed runs queries.Format answer = Formats formats unformatted encoding text answer
+  IsAnswer formats unformatted names linked completed fixed signed runs (queries.FormatRange range) answer = FormatsRange formats unformatted encoding text answer
+  IsAnswer formats unformatted names linked completed fixed signed runs (queries.Definition position) answer = Tells (queries.Definition position) answer
+  IsAnswer formats unformatted names linked completed fixed signed runs (queries.References position all) answer = Tells (queries.References position all) answer
+  IsAnswer formats unformatted names linked completed fixed signed runs (queries.PrepareRename position) answer = Tells (queries.PrepareRename position) answer
+  IsAnswer formats unformatted names linked completed fixed signed runs (queries.Rename position new) answer = Replaces names analysis new.now (Tells (queries.Rename position new) answer)
+  IsAnswer formats unformatted names linked completed fixed signed runs (queries.Highlights position) answer = Tells (queries.Highlights position) answer
+  IsAnswer formats unformatted names linked completed fixed signed runs (queries.Hover position) answer = Hovers mentioned completed encoding text analysis position answer
+  IsAnswer formats unformatted names linked completed fixed signed runs queries.Links answer = LinksIn linked encoding uri text analysis answer
+  IsAnswer formats unformatted names linked completed fixed signed runs (queries.Complete position) answer = Completes mentioned completed encoding text analysis position answer
+  IsAnswer formats unformatted names linked completed fixed signed runs (queries.Fixes range) answer = FixesIn fixed encoding uri text analysis range answer
+  IsAnswer formats unformatted names linked completed fixed signed runs (queries.Signature position) answer = Signs mentioned signed encoding text analysis position answer
+  IsAnswer formats unformatted names linked completed fixed signed runs queries.Lenses answer = RunsIn runs encoding text analysis answer
+  IsAnswer formats unformatted names linked completed fixed signed runs other answer = Unit {0}
 
   -- What is asked for about a text is refused for this reason. Only a new name is, and the question which name would be replaced.
   abbrev pub IsRefused : (names : List ℕ → Type 0) → Query → ErrorCode → Type 0

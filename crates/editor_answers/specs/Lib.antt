@@ -1,7 +1,9 @@
 pub mod Answers
+pub mod Called
 pub mod Fixes
 pub mod Formatting
 pub mod Links
 pub mod Names
 pub mod Ranges
 pub mod Renames
+pub mod Runs

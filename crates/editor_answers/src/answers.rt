@@ -11,9 +11,11 @@ use crate::colors::token_numbers;
 use crate::failure::Failure;
 use crate::fixes::fixes;
 use crate::formats::{format, format_range};
+use crate::lenses::lenses;
 use crate::names::{definition, highlights, hover, references, rename, replaceable};
 use crate::renames::is_right;
 use crate::shown::Shown;
+use crate::signatures::signature;
 use editor_language::{Analysis, Choices, Finding, Language, Mention, Problem};
 use editor_messages::{Answer, Completions, Diagnostic, ErrorCode, Query};
 use justfile_lines::{Encoding, Position};
@@ -57,8 +59,8 @@ pub fn answer<L: Language>(
     query: Query<'_>,
 ) -> Result<Answer, Failure>
     ensures ok { IfOk result (IsAnswer L.knows L.mentioned encoding uri.now text.now
-        analysis.now L.formats L.unformatted L.names L.linked L.completed L.fixed
-        query.entry) }
+        analysis.now L.formats L.unformatted L.names L.linked L.completed L.fixed L.signed
+        L.runs query.entry) }
     ensures failed { IfErr result (FailsFor (IsRefused L.knows L.mentioned encoding uri.now
         text.now analysis.now L.names query.entry)) }
 {
@@ -82,7 +84,7 @@ fn answer_of<L: Language>(
 ) -> Result<Answer, Failure>
     ensures ok { IfOk result (IsAnswer L.knows L.mentioned asked.now.shown.encoding
         asked.now.uri.now asked.now.text.now asked.now.analysis.now L.formats L.unformatted
-        L.names L.linked L.completed L.fixed query.entry) }
+        L.names L.linked L.completed L.fixed L.signed L.runs query.entry) }
     ensures failed { IfErr result (FailsFor (IsRefused L.knows L.mentioned
         asked.now.shown.encoding asked.now.uri.now asked.now.text.now asked.now.analysis.now
         L.names query.entry)) }
@@ -97,6 +99,8 @@ fn answer_of<L: Language>(
         Query::Complete(position) => complete(alloc, language, asked, position),
         Query::Tokens => tokens(alloc, language, asked),
         Query::Fixes(range) => fixes(alloc, language, asked, range),
+        Query::Signature(position) => signature(alloc, language, asked, position),
+        Query::Lenses => lenses(alloc, language, asked),
         Query::Definition(at) => about_name(alloc, language, asked, Query::Definition(at)),
         Query::References(at, all) => {
             about_name(alloc, language, asked, Query::References(at, all))
@@ -184,6 +188,8 @@ fn told<L: Language>(
         | Query::Complete(_)
         | Query::Hover(_)
         | Query::Fixes(_)
+        | Query::Signature(_)
+        | Query::Lenses
         | Query::Tokens
         | Query::Links => Ok(Answer::Nothing),
     }

@@ -9,9 +9,11 @@ mod explained;
 mod failure;
 mod fixes;
 mod formats;
+mod lenses;
 mod names;
 mod renames;
 mod shown;
+mod signatures;
 
 pub use answers::{answer, diagnostics};
 pub use failure::Failure;

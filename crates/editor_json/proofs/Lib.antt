@@ -1,6 +1,9 @@
 pub mod Abilities
 pub mod Changes
+pub mod Integers
 pub mod Names
 pub mod Optional
 pub mod Pieces
 pub mod Replies
+pub mod SentBack
+pub mod Shapes

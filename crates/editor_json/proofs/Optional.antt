@@ -1,5 +1,5 @@
 -- Members that are there only with a text.
-use Rattle.std.proofs.Common.{◌≡◌, ◌∙◌, ◌++◌, ℕ, true, false, List, [], ◌∷◌, Option, Some, None, codes, refl, sym, ap, append_assoc, string_bytes}
+use Rattle.std.proofs.Common.{◌≡◌, ◌∙◌, ◌++◌, ◌<◌, ◌^◌, lit<, ℕ, true, false, List, [], ◌∷◌, Option, Some, None, codes, refl, sym, ap, append_assoc, string_bytes}
 use Rattle.std.specs.Prelude.{decimal}
 use Rattle.std.specs.Fmt.{digits}
 use Rattle.serde_json.proofs.OnLiterals.{serde_json_on_literals}
@@ -8,9 +8,24 @@ use Rattle.serde_json.specs.Written.{compact_text, members_text}
 use Rattle.text_edits.specs.declared.edit.Range.{Range}
 use Rattle.editor_messages.specs.Numbers.{completion_number}
 use Rattle.editor_messages.specs.declared.answer.Completion.{Completion}
+use Rattle.editor_messages.specs.declared.answer.CompletionKind.{CompletionKind}
+use Rattle.editor_messages.specs.declared.answer.CompletionKind.TheVariants.{Constant, Function, Keyword, Property, Value, Variable}
 use Rattle.editor_messages.specs.declared.answer.Diagnostic.{Diagnostic}
 use Rattle.editor_messages.specs.declared.answer.Related.{Related}
+use Rattle.editor_json.specs.Integers.{MembersHaveIntegers}
 use Rattle.editor_json.specs.Sent.{completion_data, count_data, diagnostic_data, optional, optional_text, put_data, range_data, related_data, related_text, sure_data, text_data, with_related}
+
+pub optional_integers : (key text : List ℕ) (others : Members) → MembersHaveIntegers others → MembersHaveIntegers (optional key text others)
+optional_integers key [] others h = h
+optional_integers key (c ∷ text) others h = (tt, h)
+
+pub kind_fits : (kind : CompletionKind) → completion_number kind < 2 ^ 64
+kind_fits Function = lit< tt
+kind_fits Variable = lit< tt
+kind_fits Property = lit< tt
+kind_fits Value = lit< tt
+kind_fits Keyword = lit< tt
+kind_fits Constant = lit< tt
 
 -- more members have a comma before them
 abbrev HasComma : Members → Type 0
@@ -29,7 +44,7 @@ with_optional key (c ∷ text) ms h =
     ap (λ (t : List ℕ). compact_text (text_data key) ++ 58 ∷ (compact_text (text_data (c ∷ text)) ++ t)) h
     ∙ joined (compact_text (text_data key)) (compact_text (text_data (c ∷ text))) (members_text false ms)
 
-abbrev last_members : Range → Completion → Members
+abbrev pub last_members : Range → Completion → Members
 last_members range c = member (codes "kind") (count_data (completion_number c.kind)) (member (codes "label") (text_data (string_bytes c.label)) (member (codes "textEdit") (put_data range (string_bytes c.label)) no_members))
 
 last_written : (range : Range) (c : Completion)
@@ -70,7 +85,7 @@ related_written uri (Some r) =
     let it = compact_text (related_data uri r) in
     ap (λ (t : List ℕ). codes "\"relatedInformation\":[" ++ t) (append_assoc it (codes "],") sure ∙ sym (append_assoc it (93 ∷ []) (44 ∷ sure)))
 
-abbrev middle_members : (uri : List ℕ) → Diagnostic → Members
+abbrev pub middle_members : (uri : List ℕ) → Diagnostic → Members
 middle_members uri d = member (codes "message") (text_data (string_bytes d.message)) (member (codes "range") (range_data d.range) (with_related uri d.related sure_data))
 
 middle_written : (uri : List ℕ) (d : Diagnostic)

@@ -1,3 +1,4 @@
+pub mod Integers
 pub mod Received
 pub mod Requests
 pub mod Sent

@@ -19,8 +19,11 @@ use Rattle.editor_messages.specs.declared.answer.Diagnostic.{Diagnostic}
 use Rattle.editor_messages.specs.declared.answer.Fold.{Fold}
 use Rattle.editor_messages.specs.declared.answer.Highlight.{Highlight}
 use Rattle.editor_messages.specs.declared.answer.Hover.{Hover}
+use Rattle.editor_messages.specs.declared.answer.LabelPart.{LabelPart}
+use Rattle.editor_messages.specs.declared.answer.Lens.{Lens}
 use Rattle.editor_messages.specs.declared.answer.Link.{Link}
 use Rattle.editor_messages.specs.declared.answer.Related.{Related}
+use Rattle.editor_messages.specs.declared.answer.Signature.{Signature}
 use Rattle.editor_messages.specs.declared.answer.Symbol.{Symbol}
 use Rattle.editor_messages.specs.declared.error_code.ErrorCode.{ErrorCode}
 use Rattle.editor_messages.specs.declared.message.Id.{Id}
@@ -138,6 +141,23 @@ rename_data uri edits = object (member (codes "changes") (object (member uri (li
 abbrev pub action_data : (uri : List ℕ) → CodeAction → Data
 action_data uri a = object (member (codes "edit") (rename_data uri a.edits.items) (member (codes "kind") (text_data (codes "quickfix")) (member (codes "title") (text_data (string_bytes a.title)) no_members)))
 
+-- what is called, and for which of its parameters an argument is written
+abbrev pub parameter_data : LabelPart → Data
+parameter_data p = object (member (codes "label") (array (item (count_data p.start) (item (count_data p.end) no_items))) no_members)
+
+abbrev pub signature_data : Signature → Data
+signature_data s = object (member (codes "label") (text_data (string_bytes s.label)) (member (codes "parameters") (list_data parameter_data s.parameters.items) no_members))
+
+abbrev pub help_data : Signature → Data
+help_data s = object (member (codes "activeParameter") (count_data s.active) (member (codes "signatures") (list_data signature_data (s ∷ [])) no_members))
+
+-- a command by which a client runs what has this name
+abbrev pub command_data : (name : List ℕ) → Data
+command_data name = object (member (codes "arguments") (array (item (text_data name) no_items)) (member (codes "command") (text_data (codes "just.run")) (member (codes "title") (text_data (codes "Run")) no_members)))
+
+abbrev pub lens_data : Lens → Data
+lens_data l = object (member (codes "command") (command_data (string_bytes l.name)) (member (codes "range") (range_data l.range) no_members))
+
 abbrev pub tokens_data : List ℕ → Data
 tokens_data numbers = object (member (codes "data") (list_data count_data numbers) no_members)
 
@@ -152,6 +172,13 @@ nothing_more = object no_members
 -- after each of these characters a name or a keyword can follow
 abbrev pub triggers : List (List ℕ)
 triggers = codes "(" ∷ codes "," ∷ codes ":" ∷ codes "=" ∷ codes "[" ∷ codes "{" ∷ []
+
+-- an argument can begin after each of these
+abbrev pub argument_triggers : List (List ℕ)
+argument_triggers = codes "(" ∷ codes "," ∷ codes " " ∷ []
+
+abbrev pub signature_ability : Data
+signature_ability = object (member (codes "triggerCharacters") (list_data text_data argument_triggers) no_members)
 
 abbrev pub completion_ability : Data
 completion_ability = object (member (codes "triggerCharacters") (list_data text_data triggers) no_members)
@@ -175,13 +202,13 @@ abbrev pub rename_ability : Data
 rename_ability = object (member (codes "prepareProvider") (boolean true) no_members)
 
 abbrev pub last_abilities : Encoding → Members
-last_abilities encoding = member (codes "positionEncoding") (text_data (encoding_name encoding)) (member (codes "referencesProvider") (boolean true) (member (codes "renameProvider") rename_ability (member (codes "semanticTokensProvider") tokens_ability (member (codes "textDocumentSync") sync_ability no_members))))
+last_abilities encoding = member (codes "positionEncoding") (text_data (encoding_name encoding)) (member (codes "referencesProvider") (boolean true) (member (codes "renameProvider") rename_ability (member (codes "semanticTokensProvider") tokens_ability (member (codes "signatureHelpProvider") signature_ability (member (codes "textDocumentSync") sync_ability no_members)))))
 
 abbrev pub middle_abilities : Encoding → Members
 middle_abilities encoding = member (codes "documentRangeFormattingProvider") (boolean true) (member (codes "documentSymbolProvider") (boolean true) (member (codes "foldingRangeProvider") (boolean true) (member (codes "hoverProvider") (boolean true) (last_abilities encoding))))
 
 abbrev pub abilities : Encoding → Members
-abilities encoding = member (codes "codeActionProvider") action_ability (member (codes "completionProvider") completion_ability (member (codes "definitionProvider") (boolean true) (member (codes "documentFormattingProvider") (boolean true) (member (codes "documentHighlightProvider") (boolean true) (member (codes "documentLinkProvider") nothing_more (middle_abilities encoding))))))
+abilities encoding = member (codes "codeActionProvider") action_ability (member (codes "codeLensProvider") nothing_more (member (codes "completionProvider") completion_ability (member (codes "definitionProvider") (boolean true) (member (codes "documentFormattingProvider") (boolean true) (member (codes "documentHighlightProvider") (boolean true) (member (codes "documentLinkProvider") nothing_more (middle_abilities encoding)))))))
 
 abbrev pub server_data : Data
 server_data = object (member (codes "name") (text_data (codes "justfile_server")) no_members)
@@ -203,6 +230,8 @@ result_data (answers.Rename rename) = rename_data (string_bytes rename.uri) rena
 result_data (answers.Hover hover) = hover_data hover
 result_data (answers.Completions completions) = completions_data completions
 result_data (answers.Fixes uri actions) = list_data (action_data (string_bytes uri)) actions.items
+result_data (answers.Signature signature) = help_data signature
+result_data (answers.Lenses lenses) = list_data lens_data lenses.items
 result_data (answers.Tokens numbers) = tokens_data numbers.items
 result_data (answers.Links links) = list_data link_data links.items
 

@@ -2,12 +2,16 @@
 ghost use Rattle.std.specs.Prelude.{◌≡◌, IfOk, string_bytes};
 ghost use Rattle.serde_json.specs.View.{view};
 ghost use Rattle.serde_json.specs.Written.{compact_text};
-ghost use Rattle.editor_json.specs.Sent.{action_data, completion_data, count_data, diagnostic_data, edit_data, fold_data, highlight_data, link_data, optional_text, place_data, put_data, related_data, related_text, symbol_data};
+ghost use Rattle.editor_json.specs.Integers.{HasIntegers, MembersHaveIntegers};
+ghost use Rattle.editor_json.specs.Sent.{action_data, completion_data, count_data, diagnostic_data, edit_data, fold_data, highlight_data, lens_data, link_data, optional_text, parameter_data, place_data, put_data, related_data, related_text, signature_data, sure_data, symbol_data, with_related};
 
-use crate::lists::Written;
+use crate::lists::{Written, list_text};
 use crate::results::{quoted, range_text, rename_text};
 use crate::values::{range_value, text_of};
-use editor_messages::{CodeAction, Completion, Diagnostic, Fold, Highlight, Link, Related, Symbol};
+use editor_messages::{
+    CodeAction, Completion, Diagnostic, Fold, Highlight, LabelPart, Lens, Link, Related, Signature,
+    Symbol,
+};
 use serde_json::{Value, json};
 use std::alloc::{AllocError, Global};
 use text_edits::{Range, TextEdit};
@@ -18,7 +22,8 @@ impl Written for usize {
     ghost written = { λ _. count_data };
 
     fn text(&self, alloc: Global, _shared: &()) -> Result<String, AllocError> {
-        self.to_string(alloc)
+        let number = *self;
+        number.to_string(alloc)
     }
 }
 
@@ -34,18 +39,13 @@ impl Written for TextEdit {
 
 /// Returns the text of the edit that puts a text in place of a range.
 fn edit_text(alloc: Global, range: Range, new: &str) -> Result<String, AllocError>
-    ensures { IfOk result (λ text. string_bytes text ≡ compact_text (put_data range new.now)) }
+    ensures exact { IfOk result (λ text. string_bytes text ≡ compact_text (put_data range new.now)) }
+    ensures integers { IfOk result (λ _. HasIntegers (put_data range new.now)) }
 {
-    let value = edit_value(alloc, range, new)?;
-    text_of(alloc, &value)
-}
-
-/// Returns the edit that puts a text in place of a range.
-fn edit_value(alloc: Global, range: Range, new: &str) -> Result<Value, AllocError>
-    ensures { IfOk result (λ v. view v ≡ put_data range new.now) }
-{
-    let range = range_value(alloc, range)?;
-    json!(in alloc; {"range": range, "newText": new})
+    let range = range_text(alloc, range)?;
+    let new = quoted(alloc, new)?;
+    let text = format!(in alloc; "{{\"newText\":{new},\"range\":{range}}}")?;
+    Ok(text)
 }
 
 impl Written for Range {
@@ -55,14 +55,25 @@ impl Written for Range {
     ghost written = { λ uri. place_data (string_bytes uri) };
 
     fn text(&self, alloc: Global, uri: &String) -> Result<String, AllocError> {
-        let value = place_value(alloc, uri.as_str(), *self)?;
-        text_of(alloc, &value)
+        place_text(alloc, uri.as_str(), *self)
     }
+}
+
+/// Returns the text of a range in the document with an address.
+#[tactic(auto, unfolding(serde_json::proofs::OnLiterals::serde_json_on_literals))]
+fn place_text(alloc: Global, uri: &str, range: Range) -> Result<String, AllocError>
+    ensures exact { IfOk result (λ text. string_bytes text ≡ compact_text (place_data uri.now range)) }
+    ensures integers { IfOk result (λ _. HasIntegers (place_data uri.now range)) }
+{
+    let range = range_text(alloc, range)?;
+    let uri = quoted(alloc, uri)?;
+    format!(in alloc; "{{\"range\":{range},\"uri\":{uri}}}")
 }
 
 /// Returns a range in the document with an address.
 fn place_value(alloc: Global, uri: &str, range: Range) -> Result<Value, AllocError>
-    ensures { IfOk result (λ v. view v ≡ place_data uri.now range) }
+    ensures exact { IfOk result (λ v. view v ≡ place_data uri.now range) }
+    ensures integers { IfOk result (λ _. HasIntegers (place_data uri.now range)) }
 {
     let range = range_value(alloc, range)?;
     json!(in alloc; {"uri": uri, "range": range})
@@ -81,7 +92,8 @@ impl Written for Symbol {
 
 /// Returns a symbol.
 fn symbol_value(alloc: Global, symbol: &Symbol) -> Result<Value, AllocError>
-    ensures { IfOk result (λ v. view v ≡ symbol_data symbol.now) }
+    ensures exact { IfOk result (λ v. view v ≡ symbol_data symbol.now) }
+    ensures integers { IfOk result (λ _. HasIntegers (symbol_data symbol.now)) }
 {
     let range = range_value(alloc, symbol.range)?;
     let selection = range_value(alloc, symbol.selection)?;
@@ -96,18 +108,19 @@ impl Written for Highlight {
     ghost written = { λ _. highlight_data };
 
     fn text(&self, alloc: Global, _shared: &()) -> Result<String, AllocError> {
-        let value = highlight_value(alloc, *self)?;
-        text_of(alloc, &value)
+        highlight_text(alloc, *self)
     }
 }
 
-/// Returns where a name is.
-fn highlight_value(alloc: Global, highlight: Highlight) -> Result<Value, AllocError>
-    ensures { IfOk result (λ v. view v ≡ highlight_data highlight) }
+/// Returns the text of where a name is.
+#[tactic(auto, unfolding(serde_json::proofs::OnLiterals::serde_json_on_literals))]
+fn highlight_text(alloc: Global, highlight: Highlight) -> Result<String, AllocError>
+    ensures exact { IfOk result (λ text. string_bytes text ≡ compact_text (highlight_data highlight)) }
+    ensures integers { IfOk result (λ _. HasIntegers (highlight_data highlight)) }
 {
-    let range = range_value(alloc, highlight.range)?;
+    let range = range_text(alloc, highlight.range)?;
     let kind = highlight.number();
-    json!(in alloc; {"kind": kind, "range": range})
+    format!(in alloc; "{{\"kind\":{kind},\"range\":{range}}}")
 }
 
 impl Written for Fold {
@@ -123,7 +136,8 @@ impl Written for Fold {
 
 /// Returns lines that can be folded together.
 fn fold_value(alloc: Global, fold: &Fold) -> Result<Value, AllocError>
-    ensures { IfOk result (λ v. view v ≡ fold_data fold.now) }
+    ensures exact { IfOk result (λ v. view v ≡ fold_data fold.now) }
+    ensures integers { IfOk result (λ _. HasIntegers (fold_data fold.now)) }
 {
     json!(in alloc; {"startLine": fold.first, "endLine": fold.last})
 }
@@ -141,11 +155,77 @@ impl Written for Link {
 
 /// Returns a link.
 fn link_value(alloc: Global, link: &Link) -> Result<Value, AllocError>
-    ensures { IfOk result (λ v. view v ≡ link_data link.now) }
+    ensures exact { IfOk result (λ v. view v ≡ link_data link.now) }
+    ensures integers { IfOk result (λ _. HasIntegers (link_data link.now)) }
 {
     let range = range_value(alloc, link.range)?;
     let target = link.target.as_str();
     json!(in alloc; {"range": range, "target": target})
+}
+
+impl Written for Lens {
+    type Shared = ();
+
+    ghost written = { λ _. lens_data };
+
+    fn text(&self, alloc: Global, _shared: &()) -> Result<String, AllocError> {
+        let value = lens_value(alloc, self)?;
+        text_of(alloc, &value)
+    }
+}
+
+/// Returns what can be run, with the command for it.
+fn lens_value(alloc: Global, lens: &Lens) -> Result<Value, AllocError>
+    ensures exact { IfOk result (λ v. view v ≡ lens_data lens.now) }
+    ensures integers { IfOk result (λ _. HasIntegers (lens_data lens.now)) }
+{
+    let range = range_value(alloc, lens.range)?;
+    let name = lens.name.as_str();
+    json!(in alloc; {
+        "command": {"arguments": [name], "command": "just.run", "title": "Run"},
+        "range": range
+    })
+}
+
+impl Written for LabelPart {
+    type Shared = ();
+
+    ghost written = { λ _. parameter_data };
+
+    fn text(&self, alloc: Global, _shared: &()) -> Result<String, AllocError> {
+        let value = parameter_value(alloc, *self)?;
+        text_of(alloc, &value)
+    }
+}
+
+/// Returns a parameter that is a part of a label.
+fn parameter_value(alloc: Global, part: LabelPart) -> Result<Value, AllocError>
+    ensures exact { IfOk result (λ v. view v ≡ parameter_data part) }
+    ensures integers { IfOk result (λ _. HasIntegers (parameter_data part)) }
+{
+    json!(in alloc; {"label": [part.start, part.end]})
+}
+
+impl Written for Signature {
+    type Shared = ();
+
+    ghost written = { λ _. signature_data };
+
+    fn text(&self, alloc: Global, _shared: &()) -> Result<String, AllocError> {
+        signature_text(alloc, self)
+    }
+}
+
+/// Returns the text of something that is called, with its parameters.
+#[tactic(auto, unfolding(serde_json::proofs::OnLiterals::serde_json_on_literals))]
+fn signature_text(alloc: Global, signature: &Signature) -> Result<String, AllocError>
+    ensures exact { IfOk result (λ text.
+        string_bytes text ≡ compact_text (signature_data signature.now)) }
+    ensures integers { IfOk result (λ _. HasIntegers (signature_data signature.now)) }
+{
+    let label = quoted(alloc, signature.label.as_str())?;
+    let parameters = list_text(alloc, &(), &signature.parameters)?;
+    format!(in alloc; "{{\"label\":{label},\"parameters\":{parameters}}}")
 }
 
 impl Written for CodeAction {
@@ -162,8 +242,9 @@ impl Written for CodeAction {
 /// Returns the text of a way to set something right in the document with an address.
 #[tactic(auto, unfolding(serde_json::proofs::OnLiterals::serde_json_on_literals))]
 fn action_text(alloc: Global, action: &CodeAction, uri: &str) -> Result<String, AllocError>
-    ensures { IfOk result (λ text.
+    ensures exact { IfOk result (λ text.
         string_bytes text ≡ compact_text (action_data uri.now action.now)) }
+    ensures integers { IfOk result (λ _. HasIntegers (action_data uri.now action.now)) }
 {
     let edit = rename_text(alloc, uri, &action.edits)?;
     let title = quoted(alloc, action.title.as_str())?;
@@ -187,8 +268,9 @@ fn completion_text(
     completion: &Completion,
     range: Range,
 ) -> Result<String, AllocError>
-    ensures { IfOk result (λ text.
+    ensures exact { IfOk result (λ text.
         string_bytes text ≡ compact_text (completion_data range completion.now)) }
+    ensures integers { IfOk result (λ _. HasIntegers (completion_data range completion.now)) }
 {
     let label = completion.label.as_str();
     let first = member_text(alloc, "detail", completion.detail.as_str())?;
@@ -228,8 +310,9 @@ impl Written for Diagnostic {
 
 /// Returns the text of what is wrong in a range of the document with an address.
 fn diagnostic_text(alloc: Global, diagnostic: &Diagnostic, uri: &str) -> Result<String, AllocError>
-    ensures { IfOk result (λ text.
+    ensures exact { IfOk result (λ text.
         string_bytes text ≡ compact_text (diagnostic_data uri.now diagnostic.now)) }
+    ensures integers { IfOk result (λ _. HasIntegers (diagnostic_data uri.now diagnostic.now)) }
 {
     let code = member_text(alloc, "code", diagnostic.code)?;
     let message = quoted(alloc, diagnostic.message.as_str())?;
@@ -243,7 +326,9 @@ fn diagnostic_text(alloc: Global, diagnostic: &Diagnostic, uri: &str) -> Result<
 
 /// Returns the text of the member with another range of the document, before others, if there is one.
 fn related_text(alloc: Global, uri: &str, related: Option<Related>) -> Result<String, AllocError>
-    ensures { IfOk result (λ made. string_bytes made ≡ related_text uri.now related) }
+    ensures exact { IfOk result (λ made. string_bytes made ≡ related_text uri.now related) }
+    ensures integers { IfOk result
+        (λ _. MembersHaveIntegers (with_related uri.now related sure_data)) }
 {
     let Some(related) = related else {
         return Ok(String::new(alloc));
@@ -256,7 +341,8 @@ fn related_text(alloc: Global, uri: &str, related: Option<Related>) -> Result<St
 
 /// Returns another range of the document.
 fn related_value(alloc: Global, uri: &str, related: Related) -> Result<Value, AllocError>
-    ensures { IfOk result (λ v. view v ≡ related_data uri.now related) }
+    ensures exact { IfOk result (λ v. view v ≡ related_data uri.now related) }
+    ensures integers { IfOk result (λ _. HasIntegers (related_data uri.now related)) }
 {
     let place = place_value(alloc, uri, related.range)?;
     json!(in alloc; {"location": place, "message": related.message})

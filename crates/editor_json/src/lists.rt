@@ -2,6 +2,7 @@
 ghost use Rattle.std.specs.Prelude.{◌≡◌, ◌++◌, OnOk, IfOk, string_bytes};
 ghost use Rattle.serde_json.specs.Data.{Data};
 ghost use Rattle.serde_json.specs.Written.{comma_if, compact_text};
+ghost use Rattle.editor_json.specs.Integers.{HasIntegers};
 ghost use Rattle.editor_json.specs.Sent.{list_data};
 
 use std::alloc::{AllocError, Global};
@@ -20,8 +21,9 @@ pub(crate) trait Written {
     ///
     /// Memory ran out.
     fn text(&self, alloc: Global, shared: &Self::Shared) -> Result<String, AllocError>
-        ensures { IfOk result
-            (λ text. string_bytes text ≡ compact_text (written shared.now self.now)) };
+        ensures exact { IfOk result
+            (λ text. string_bytes text ≡ compact_text (written shared.now self.now)) }
+        ensures integers { IfOk result (λ _. HasIntegers (written shared.now self.now)) };
 }
 
 /// Returns the text of a list whose elements share something.
@@ -30,8 +32,9 @@ pub(crate) fn list_text<T: Written>(
     shared: &T::Shared,
     items: &[T],
 ) -> Result<String, AllocError>
-    ensures { IfOk result
+    ensures exact { IfOk result
         (λ text. string_bytes text ≡ compact_text (list_data (T.written shared.now) items.now)) }
+    ensures integers { IfOk result (λ _. HasIntegers (list_data (T.written shared.now) items.now)) }
 {
     let mut list = String::from_str(alloc, "[")?;
     let mut is_later = false;

@@ -78,6 +78,8 @@ fn query_of<'a>(method: Method, parameters: &'a Value) -> Option<Query<'a>>
         Method::Hover => Some(Query::Hover(position_in(parameters)?)),
         Method::Completion => Some(Query::Complete(position_in(parameters)?)),
         Method::CodeAction => Some(Query::Fixes(range_in(parameters)?)),
+        Method::SignatureHelp => Some(Query::Signature(position_in(parameters)?)),
+        Method::CodeLens => Some(Query::Lenses),
         Method::SemanticTokens => Some(Query::Tokens),
         Method::DocumentLink => Some(Query::Links),
         _ => None,

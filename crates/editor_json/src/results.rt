@@ -2,20 +2,23 @@
 ghost use Rattle.std.specs.Prelude.{◌≡◌, IfOk, string_bytes};
 ghost use Rattle.serde_json.specs.View.{view};
 ghost use Rattle.serde_json.specs.Written.{compact_text};
-ghost use Rattle.editor_json.specs.Sent.{abilities_data, completions_data, encoding_name, hover_data, range_data, rename_data, result_data, text_data, tokens_data};
+ghost use Rattle.editor_json.specs.Integers.{HasIntegers};
+ghost use Rattle.editor_json.specs.Sent.{abilities_data, completions_data, encoding_name, help_data, hover_data, position_data, range_data, rename_data, result_data, text_data, tokens_data};
 
 use crate::lists::list_text;
 use crate::values::{range_value, text_of};
-use editor_messages::{Answer, Completions, Hover};
-use justfile_lines::Encoding;
+use editor_messages::{Answer, Completions, Hover, Signature};
+use justfile_lines::{Encoding, Position};
 use serde_json::{Value, json};
 use std::alloc::{AllocError, Global};
+use std::slice;
 use text_edits::{Range, TextEdit};
 
 /// Returns the text of the result that an answer is.
 #[tactic(auto, unfolding(serde_json::proofs::OnLiterals::serde_json_on_literals))]
 pub(crate) fn result_text(alloc: Global, answer: &Answer) -> Result<String, AllocError>
-    ensures { IfOk result (λ text. string_bytes text ≡ compact_text (result_data answer.now)) }
+    ensures exact { IfOk result (λ text. string_bytes text ≡ compact_text (result_data answer.now)) }
+    ensures integers { IfOk result (λ _. HasIntegers (result_data answer.now)) }
 {
     match answer {
         Answer::Nothing => String::from_str(alloc, "null"),
@@ -30,6 +33,8 @@ pub(crate) fn result_text(alloc: Global, answer: &Answer) -> Result<String, Allo
         Answer::Hover(hover) => hover_text(alloc, hover),
         Answer::Completions(completions) => completions_text(alloc, completions),
         Answer::Fixes(uri, actions) => list_text(alloc, uri, actions),
+        Answer::Signature(signature) => help_text(alloc, signature),
+        Answer::Lenses(lenses) => list_text(alloc, &(), lenses),
         Answer::Tokens(numbers) => tokens_text(alloc, numbers),
         Answer::Links(links) => list_text(alloc, &(), links),
     }
@@ -51,6 +56,7 @@ fn encoding_name(encoding: Encoding) -> &'static str
 /// to ask for, and no space, which is in each line of a body.
 const BEFORE: &str = "{\"capabilities\":{\
     \"codeActionProvider\":{\"codeActionKinds\":[\"quickfix\"]},\
+    \"codeLensProvider\":{},\
     \"completionProvider\":{\"triggerCharacters\":[\
         \"(\",\",\",\":\",\"=\",\"[\",\"{\"]},\
     \"definitionProvider\":true,\
@@ -70,12 +76,14 @@ const AFTER: &str = "\",\
     \"semanticTokensProvider\":{\"full\":true,\"legend\":{\"tokenModifiers\":[],\"tokenTypes\":[\
         \"comment\",\"string\",\"operator\",\"keyword\",\
         \"property\",\"function\",\"variable\",\"parameter\"]}},\
+    \"signatureHelpProvider\":{\"triggerCharacters\":[\"(\",\",\",\" \"]},\
     \"textDocumentSync\":{\"change\":2,\"openClose\":true}},\
     \"serverInfo\":{\"name\":\"justfile_server\"}}";
 
 /// Returns the text of what the server can do.
 fn abilities_text(alloc: Global, encoding: Encoding) -> Result<String, AllocError>
-    ensures { IfOk result (λ text. string_bytes text ≡ compact_text (abilities_data encoding)) }
+    ensures exact { IfOk result (λ text. string_bytes text ≡ compact_text (abilities_data encoding)) }
+    ensures integers { IfOk result (λ _. HasIntegers (abilities_data encoding)) }
 {
     let name = encoding_name(encoding);
     let text = format!(in alloc; "{BEFORE}{name}{AFTER}")?;
@@ -84,10 +92,24 @@ fn abilities_text(alloc: Global, encoding: Encoding) -> Result<String, AllocErro
 
 /// Returns the text of a range.
 pub(crate) fn range_text(alloc: Global, range: Range) -> Result<String, AllocError>
-    ensures { IfOk result (λ text. string_bytes text ≡ compact_text (range_data range)) }
+    ensures exact { IfOk result (λ text. string_bytes text ≡ compact_text (range_data range)) }
+    ensures integers { IfOk result (λ _. HasIntegers (range_data range)) }
 {
-    let value = range_value(alloc, range)?;
-    text_of(alloc, &value)
+    let start = position_text(alloc, range.start)?;
+    let end = position_text(alloc, range.end)?;
+    let text = format!(in alloc; "{{\"end\":{end},\"start\":{start}}}")?;
+    Ok(text)
+}
+
+/// Returns the text of a position.
+#[tactic(auto, unfolding(serde_json::proofs::OnLiterals::serde_json_on_literals))]
+fn position_text(alloc: Global, position: Position) -> Result<String, AllocError>
+    ensures exact { IfOk result (λ text. string_bytes text ≡ compact_text (position_data position)) }
+    ensures integers { IfOk result (λ _. HasIntegers (position_data position)) }
+{
+    let line = position.line;
+    let column = position.column;
+    format!(in alloc; "{{\"character\":{column},\"line\":{line}}}")
 }
 
 /// Returns the text of edits of the document with an address.
@@ -96,8 +118,9 @@ pub(crate) fn rename_text(
     uri: &str,
     edits: &[TextEdit],
 ) -> Result<String, AllocError>
-    ensures { IfOk result
+    ensures exact { IfOk result
         (λ text. string_bytes text ≡ compact_text (rename_data uri.now edits.now)) }
+    ensures integers { IfOk result (λ _. HasIntegers (rename_data uri.now edits.now)) }
 {
     let uri = quoted(alloc, uri)?;
     let edits = list_text(alloc, &(), edits)?;
@@ -115,7 +138,8 @@ pub(crate) fn quoted(alloc: Global, text: &str) -> Result<String, AllocError>
 
 /// Returns the text of what is known of a name.
 fn hover_text(alloc: Global, hover: &Hover) -> Result<String, AllocError>
-    ensures { IfOk result (λ text. string_bytes text ≡ compact_text (hover_data hover.now)) }
+    ensures exact { IfOk result (λ text. string_bytes text ≡ compact_text (hover_data hover.now)) }
+    ensures integers { IfOk result (λ _. HasIntegers (hover_data hover.now)) }
 {
     let value = hover_value(alloc, hover)?;
     text_of(alloc, &value)
@@ -123,7 +147,8 @@ fn hover_text(alloc: Global, hover: &Hover) -> Result<String, AllocError>
 
 /// Returns what is known of a name.
 fn hover_value(alloc: Global, hover: &Hover) -> Result<Value, AllocError>
-    ensures { IfOk result (λ v. view v ≡ hover_data hover.now) }
+    ensures exact { IfOk result (λ v. view v ≡ hover_data hover.now) }
+    ensures integers { IfOk result (λ _. HasIntegers (hover_data hover.now)) }
 {
     let range = range_value(alloc, hover.range)?;
     let text = hover.text.as_str();
@@ -133,18 +158,31 @@ fn hover_value(alloc: Global, hover: &Hover) -> Result<Value, AllocError>
 /// Returns the text of what can be written.
 #[tactic(auto, unfolding(serde_json::proofs::OnLiterals::serde_json_on_literals))]
 fn completions_text(alloc: Global, completions: &Completions) -> Result<String, AllocError>
-    ensures { IfOk result
+    ensures exact { IfOk result
         (λ text. string_bytes text ≡ compact_text (completions_data completions.now)) }
+    ensures integers { IfOk result (λ _. HasIntegers (completions_data completions.now)) }
 {
     let is_incomplete = completions.is_incomplete;
     let items = list_text(alloc, &completions.range, &completions.found)?;
     format!(in alloc; "{{\"isIncomplete\":{is_incomplete},\"items\":{items}}}")
 }
 
+/// Returns the text of what is called.
+#[tactic(auto, unfolding(serde_json::proofs::OnLiterals::serde_json_on_literals))]
+fn help_text(alloc: Global, signature: &Signature) -> Result<String, AllocError>
+    ensures exact { IfOk result (λ text. string_bytes text ≡ compact_text (help_data signature.now)) }
+    ensures integers { IfOk result (λ _. HasIntegers (help_data signature.now)) }
+{
+    let active = signature.active;
+    let list = list_text(alloc, &(), slice::from_ref(signature))?;
+    format!(in alloc; "{{\"activeParameter\":{active},\"signatures\":{list}}}")
+}
+
 /// Returns the text of the kinds of tokens.
 #[tactic(auto, unfolding(serde_json::proofs::OnLiterals::serde_json_on_literals))]
 fn tokens_text(alloc: Global, numbers: &[usize]) -> Result<String, AllocError>
-    ensures { IfOk result (λ text. string_bytes text ≡ compact_text (tokens_data numbers.now)) }
+    ensures exact { IfOk result (λ text. string_bytes text ≡ compact_text (tokens_data numbers.now)) }
+    ensures integers { IfOk result (λ _. HasIntegers (tokens_data numbers.now)) }
 {
     let list = list_text(alloc, &(), numbers)?;
     format!(in alloc; "{{\"data\":{list}}}")

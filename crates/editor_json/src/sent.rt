@@ -1,6 +1,8 @@
 //! The texts of what is sent.
-ghost use Rattle.std.specs.Prelude.{◌≡◌, IfOk, string_bytes};
+ghost use Rattle.std.specs.Prelude.{◌≡◌, IfOk, Some, string_bytes};
+ghost use Rattle.serde_json.specs.Read.{read};
 ghost use Rattle.serde_json.specs.Written.{compact_text};
+ghost use Rattle.editor_json.specs.Integers.{HasIntegers};
 ghost use Rattle.editor_json.specs.Sent.{error_data, id_data, parameters_data, published_data, reply_data};
 
 use crate::lists::list_text;
@@ -15,8 +17,10 @@ use std::alloc::{AllocError, Global};
 ///
 /// Memory ran out.
 pub fn reply_text(alloc: Global, id: Id<'_>, answer: &Answer) -> Result<String, AllocError>
-    ensures { IfOk result
+    ensures exact { IfOk result
         (λ text. string_bytes text ≡ compact_text (reply_data id.entry answer.now)) }
+    ensures reads_back { IfOk result
+        (λ text. read (string_bytes text) ≡ Some (reply_data id.entry answer.now)) }
 {
     let id = id_text(alloc, Some(id))?;
     let result = result_text(alloc, answer)?;
@@ -26,7 +30,8 @@ pub fn reply_text(alloc: Global, id: Id<'_>, answer: &Answer) -> Result<String, 
 
 /// Returns the text of an id.
 fn id_text(alloc: Global, id: Option<Id<'_>>) -> Result<String, AllocError>
-    ensures { IfOk result (λ text. string_bytes text ≡ compact_text (id_data id.entry)) }
+    ensures exact { IfOk result (λ text. string_bytes text ≡ compact_text (id_data id.entry)) }
+    ensures integers { IfOk result (λ _. HasIntegers (id_data id.entry)) }
 {
     let value = id_value(alloc, id)?;
     text_of(alloc, &value)
@@ -43,8 +48,10 @@ pub fn error_text(
     code: ErrorCode,
     message: &str,
 ) -> Result<String, AllocError>
-    ensures { IfOk result
+    ensures exact { IfOk result
         (λ text. string_bytes text ≡ compact_text (error_data id.entry code message.now)) }
+    ensures reads_back { IfOk result
+        (λ text. read (string_bytes text) ≡ Some (error_data id.entry code message.now)) }
 {
     let value = error_value(alloc, id, code, message)?;
     text_of(alloc, &value)
@@ -62,8 +69,10 @@ pub fn diagnostics_text(
     version: Option<i64>,
     diagnostics: &[Diagnostic],
 ) -> Result<String, AllocError>
-    ensures { IfOk result (λ text.
+    ensures exact { IfOk result (λ text.
         string_bytes text ≡ compact_text (published_data uri.now version diagnostics.now)) }
+    ensures reads_back { IfOk result
+        (λ text. read (string_bytes text) ≡ Some (published_data uri.now version diagnostics.now)) }
 {
     let params = parameters_text(alloc, uri, version, diagnostics)?;
     let method = "textDocument/publishDiagnostics";
@@ -78,8 +87,9 @@ fn parameters_text(
     version: Option<i64>,
     diagnostics: &[Diagnostic],
 ) -> Result<String, AllocError>
-    ensures { IfOk result (λ text.
+    ensures exact { IfOk result (λ text.
         string_bytes text ≡ compact_text (parameters_data uri.now version diagnostics.now)) }
+    ensures integers { IfOk result (λ _. HasIntegers (parameters_data uri.now version diagnostics.now)) }
 {
     let shared = uri.to_string(alloc)?;
     let found = list_text(alloc, &shared, diagnostics)?;

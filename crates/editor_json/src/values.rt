@@ -2,6 +2,7 @@
 ghost use Rattle.std.specs.Prelude.{◌≡◌, IfOk, false, string_bytes};
 ghost use Rattle.serde_json.specs.View.{view};
 ghost use Rattle.serde_json.specs.Written.{compact_text, has_float};
+ghost use Rattle.editor_json.specs.Integers.{HasIntegers};
 ghost use Rattle.editor_json.specs.Sent.{error_data, id_data, position_data, range_data, reason_data};
 
 use editor_messages::{ErrorCode, Id};
@@ -20,7 +21,8 @@ pub(crate) fn text_of(alloc: Global, value: &Value) -> Result<String, AllocError
 
 /// Returns an id, or null if there is none.
 pub(crate) fn id_value(alloc: Global, id: Option<Id<'_>>) -> Result<Value, AllocError>
-    ensures { IfOk result (λ v. view v ≡ id_data id.entry) }
+    ensures exact { IfOk result (λ v. view v ≡ id_data id.entry) }
+    ensures integers { IfOk result (λ _. HasIntegers (id_data id.entry)) }
 {
     match id {
         None => Ok(Value::Null),
@@ -31,14 +33,16 @@ pub(crate) fn id_value(alloc: Global, id: Option<Id<'_>>) -> Result<Value, Alloc
 
 /// Returns a position.
 fn position_value(alloc: Global, position: Position) -> Result<Value, AllocError>
-    ensures { IfOk result (λ v. view v ≡ position_data position) }
+    ensures exact { IfOk result (λ v. view v ≡ position_data position) }
+    ensures integers { IfOk result (λ _. HasIntegers (position_data position)) }
 {
     json!(in alloc; {"line": position.line, "character": position.column})
 }
 
 /// Returns a range.
 pub(crate) fn range_value(alloc: Global, range: Range) -> Result<Value, AllocError>
-    ensures { IfOk result (λ v. view v ≡ range_data range) }
+    ensures exact { IfOk result (λ v. view v ≡ range_data range) }
+    ensures integers { IfOk result (λ _. HasIntegers (range_data range)) }
 {
     let start = position_value(alloc, range.start)?;
     let end = position_value(alloc, range.end)?;
@@ -47,7 +51,8 @@ pub(crate) fn range_value(alloc: Global, range: Range) -> Result<Value, AllocErr
 
 /// Returns a reason, with words.
 fn reason_value(alloc: Global, code: ErrorCode, message: &str) -> Result<Value, AllocError>
-    ensures { IfOk result (λ v. view v ≡ reason_data code message.now) }
+    ensures exact { IfOk result (λ v. view v ≡ reason_data code message.now) }
+    ensures integers { IfOk result (λ _. HasIntegers (reason_data code message.now)) }
 {
     let number = code.number();
     json!(in alloc; {"code": number, "message": message})
@@ -60,7 +65,8 @@ pub(crate) fn error_value(
     code: ErrorCode,
     message: &str,
 ) -> Result<Value, AllocError>
-    ensures { IfOk result (λ v. view v ≡ error_data id.entry code message.now) }
+    ensures exact { IfOk result (λ v. view v ≡ error_data id.entry code message.now) }
+    ensures integers { IfOk result (λ _. HasIntegers (error_data id.entry code message.now)) }
 {
     let id = id_value(alloc, id)?;
     let error = reason_value(alloc, code, message)?;

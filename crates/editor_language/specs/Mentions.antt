@@ -3,13 +3,14 @@ use Rattle.std.specs.Prelude.{ℕ, Bool, false, true, ◌&&◌, ◌==◌, nat_le
 use Rattle.std.specs.Str.{bytes_eq}
 use Rattle.editor_language.specs.declared.mention.Mention.{Mention}
 use Rattle.editor_language.specs.declared.mention.Role.{Role}
-use Rattle.editor_language.specs.declared.mention.Role.TheVariants.{Recipe, Variable, Function, Parameter}
+use Rattle.editor_language.specs.declared.mention.Role.TheVariants.{Recipe, Variable, Function, Parameter, Constant}
 
 abbrev pub role_number : Role → ℕ
 role_number Recipe = 0
 role_number Variable = 1
 role_number Function = 2
 role_number Parameter = 3
+role_number Constant = 4
 
 abbrev pub same_scope : (first second : Option ℕ) → Bool
 same_scope None None = true

@@ -6,9 +6,14 @@ ghost use Rattle.editor_language.specs.declared.parts.Choices.{Choices};
 ghost use Rattle.editor_language.specs.declared.parts.FileLink.{FileLink};
 ghost use Rattle.editor_language.specs.declared.parts.Finding.{Finding};
 ghost use Rattle.editor_language.specs.declared.parts.QuickFix.{QuickFix};
+ghost use Rattle.editor_language.specs.declared.parts.Run.{Run};
+ghost use Rattle.editor_messages.specs.declared.answer.Signature.{Signature};
 
 use crate::mention::Mention;
-use crate::parts::{Analysis, Choices, Colored, FileLink, Finding, QuickFix, Replacement, Span};
+use crate::parts::{
+    Analysis, Choices, Colored, FileLink, Finding, QuickFix, Replacement, Run, Span,
+};
+use editor_messages::Signature;
 use std::alloc::{AllocError, Global};
 
 /// A language.
@@ -41,6 +46,12 @@ pub trait Language {
     /// These set right what is wrong in the text of the document with the address, of which this is
     /// known.
     ghost fixed: { List ℕ → List ℕ → Analysis → List QuickFix → Type 0 };
+
+    /// An argument of this is written at an offset of the text, which has these mentions.
+    ghost signed: { List ℕ → List Mention → ℕ → Option Signature → Type 0 };
+
+    /// These can be run as they are, of the text of which this is known.
+    ghost runs: { List ℕ → Analysis → List Run → Type 0 };
 
     /// Returns what is known of a text.
     ///
@@ -171,6 +182,29 @@ pub trait Language {
         analysis: &Analysis,
     ) -> Result<Vec<QuickFix>, AllocError>
         ensures { IfOk result (λ found. fixed uri.now text.now analysis.now found.items) };
+
+    /// Returns what is called with an argument at an offset of a text with these mentions, if something
+    /// is.
+    ///
+    /// # Errors
+    ///
+    /// Memory ran out.
+    fn signature(
+        &self,
+        alloc: Global,
+        text: &str,
+        mentions: &[Mention],
+        offset: usize,
+    ) -> Result<Option<Signature>, AllocError>
+        ensures { IfOk result (signed text.now mentions.now offset) };
+
+    /// Returns what can be run as it is, in a text.
+    ///
+    /// # Errors
+    ///
+    /// Memory ran out.
+    fn runs(&self, alloc: Global, text: &str, analysis: &Analysis) -> Result<Vec<Run>, AllocError>
+        ensures { IfOk result (λ found. runs text.now analysis.now found.items) };
 
     /// Returns how the tokens of a text are shown, in their order.
     ///

@@ -10,5 +10,5 @@ pub use language::Language;
 pub use mention::{Mention, Role, definition_of, is_like, mention_at, mentions_like, same_scope};
 pub use parts::{
     Analysis, Choices, Colored, FileLink, Finding, Item, Known, OtherPlace, PartProblem, Problem,
-    QuickFix, Replacement, Span, TokenType,
+    QuickFix, Replacement, Run, Span, TokenType,
 };

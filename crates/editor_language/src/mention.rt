@@ -18,6 +18,9 @@ pub enum Role {
     Function,
     /// A parameter.
     Parameter,
+    /// A variable that the language has, which a text may define too. It isn't known everywhere which
+    /// of both is meant.
+    Constant,
 }
 
 impl Role {
@@ -30,6 +33,7 @@ impl Role {
             Role::Variable => 1,
             Role::Function => 2,
             Role::Parameter => 3,
+            Role::Constant => 4,
         }
     }
 }

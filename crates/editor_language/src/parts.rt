@@ -121,6 +121,15 @@ pub struct QuickFix {
     pub replacements: Vec<Replacement>,
 }
 
+/// What can be run as it is.
+#[derive(Drop)]
+pub struct Run {
+    /// Where its name is.
+    pub span: Span,
+    /// Its name.
+    pub name: String,
+}
+
 /// What can be written somewhere.
 #[derive(Drop)]
 pub struct Choices {

@@ -24,11 +24,13 @@ method_name methods.Rename = codes "textDocument/rename"
 method_name methods.Hover = codes "textDocument/hover"
 method_name methods.Completion = codes "textDocument/completion"
 method_name methods.CodeAction = codes "textDocument/codeAction"
+method_name methods.SignatureHelp = codes "textDocument/signatureHelp"
+method_name methods.CodeLens = codes "textDocument/codeLens"
 method_name methods.SemanticTokens = codes "textDocument/semanticTokens/full"
 method_name methods.DocumentLink = codes "textDocument/documentLink"
 
 abbrev pub all_methods : List Method
-all_methods = methods.Initialize ∷ methods.Shutdown ∷ methods.Exit ∷ methods.DidOpen ∷ methods.DidChange ∷ methods.DidClose ∷ methods.DocumentSymbol ∷ methods.FoldingRange ∷ methods.Formatting ∷ methods.RangeFormatting ∷ methods.Definition ∷ methods.References ∷ methods.DocumentHighlight ∷ methods.PrepareRename ∷ methods.Rename ∷ methods.Hover ∷ methods.Completion ∷ methods.CodeAction ∷ methods.SemanticTokens ∷ methods.DocumentLink ∷ []
+all_methods = methods.Initialize ∷ methods.Shutdown ∷ methods.Exit ∷ methods.DidOpen ∷ methods.DidChange ∷ methods.DidClose ∷ methods.DocumentSymbol ∷ methods.FoldingRange ∷ methods.Formatting ∷ methods.RangeFormatting ∷ methods.Definition ∷ methods.References ∷ methods.DocumentHighlight ∷ methods.PrepareRename ∷ methods.Rename ∷ methods.Hover ∷ methods.Completion ∷ methods.CodeAction ∷ methods.SignatureHelp ∷ methods.CodeLens ∷ methods.SemanticTokens ∷ methods.DocumentLink ∷ []
 
 -- the method with this name
 unfoldable pub method_named : List ℕ → Option Method

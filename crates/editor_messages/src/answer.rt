@@ -161,6 +161,35 @@ pub struct CodeAction {
     pub edits: Vec<TextEdit>,
 }
 
+/// What is called, and for which of its parameters an argument is written.
+#[derive(Drop)]
+pub struct Signature {
+    /// What is called, and its parameters.
+    pub label: String,
+    /// Where the parameters are in the label.
+    pub parameters: Vec<LabelPart>,
+    /// The index of the one that an argument is written for.
+    pub active: usize,
+}
+
+/// A part of a label. Its bytes are ASCII before and in it, so the offsets are those of any encoding.
+#[derive(Clone, Copy)]
+pub struct LabelPart {
+    /// Where it begins.
+    pub start: usize,
+    /// Where it ends.
+    pub end: usize,
+}
+
+/// What can be run.
+#[derive(Drop)]
+pub struct Lens {
+    /// Where its name is.
+    pub range: Range,
+    /// Its name.
+    pub name: String,
+}
+
 /// An answer.
 #[derive(Drop)]
 pub enum Answer {
@@ -188,6 +217,10 @@ pub enum Answer {
     Completions(Completions),
     /// Ways to set something right in the document with an address.
     Fixes(String, Vec<CodeAction>),
+    /// What is called.
+    Signature(Signature),
+    /// What can be run.
+    Lenses(Vec<Lens>),
     /// The kinds of tokens, as the protocol writes them.
     Tokens(Vec<usize>),
     /// Links.

@@ -18,7 +18,7 @@ pub enum Change<'a> {
 
 /// How many changes are made in a text in pieces before it is put together again: the more, the more
 /// pieces there are between two places.
-const TOGETHER: usize = 1_024;
+const TOGETHER: usize = 256;
 
 /// Returns the text of a document after changes, one after the other.
 ///

@@ -11,7 +11,7 @@ mod symbol_kind;
 
 pub use answer::{
     Answer, CodeAction, Completion, CompletionKind, Completions, Diagnostic, Fold, Highlight,
-    Hover, Link, Related, Rename, Symbol,
+    Hover, LabelPart, Lens, Link, Related, Rename, Signature, Symbol,
 };
 pub use change::{Change, changed_text};
 pub use error_code::ErrorCode;

@@ -40,6 +40,10 @@ pub enum Query<'a> {
     Complete(Position),
     /// Ways to set right what is wrong in a range.
     Fixes(Range),
+    /// The parameters for which arguments are written at a position.
+    Signature(Position),
+    /// What can be run.
+    Lenses,
     /// The kinds of its tokens.
     Tokens,
     /// Its links.

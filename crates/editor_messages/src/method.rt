@@ -41,6 +41,10 @@ pub enum Method {
     Completion,
     /// Asks for ways to set right what is wrong in a range.
     CodeAction,
+    /// Asks for the parameters of what is called somewhere.
+    SignatureHelp,
+    /// Asks for commands that are shown in a document.
+    CodeLens,
     /// Asks for the kinds of tokens.
     SemanticTokens,
     /// Asks for the links of a document.
@@ -48,7 +52,7 @@ pub enum Method {
 }
 
 /// All methods.
-static METHODS: [Method; 20] = [
+static METHODS: [Method; 22] = [
     Method::Initialize,
     Method::Shutdown,
     Method::Exit,
@@ -67,6 +71,8 @@ static METHODS: [Method; 20] = [
     Method::Hover,
     Method::Completion,
     Method::CodeAction,
+    Method::SignatureHelp,
+    Method::CodeLens,
     Method::SemanticTokens,
     Method::DocumentLink,
 ];
@@ -102,6 +108,8 @@ impl Method {
             Method::Hover => "textDocument/hover",
             Method::Completion => "textDocument/completion",
             Method::CodeAction => "textDocument/codeAction",
+            Method::SignatureHelp => "textDocument/signatureHelp",
+            Method::CodeLens => "textDocument/codeLens",
             Method::SemanticTokens => "textDocument/semanticTokens/full",
             Method::DocumentLink => "textDocument/documentLink",
         }

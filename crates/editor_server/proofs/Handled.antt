@@ -10,6 +10,8 @@ use Rattle.editor_language.specs.declared.parts.Choices.{Choices}
 use Rattle.editor_language.specs.declared.parts.FileLink.{FileLink}
 use Rattle.editor_language.specs.declared.parts.Finding.{Finding}
 use Rattle.editor_language.specs.declared.parts.QuickFix.{QuickFix}
+use Rattle.editor_language.specs.declared.parts.Run.{Run}
+use Rattle.editor_messages.specs.declared.answer.Signature.{Signature}
 use Rattle.editor_json.specs.Sent.{error_data}
 use Rattle.editor_server.specs.Answering.{Answered, FailsAt, LosesTexts}
 use Rattle.editor_server.specs.Served.{Bytes, Handles, Tells, Writes, answered, failed}
@@ -31,12 +33,12 @@ pub lost_and_told : {E : Type 0} (r : Result (Option ℕ) E) (old new : Server) 
 lost_and_told (Ok exits) old new before after lost tells goes = (lost, tells, goes)
 lost_and_told (Err e) old new before after lost tells goes = tt
 
-module _ (knows : List ℕ → Analysis → Type 0) (finds : List ℕ → List ℕ → Analysis → List Finding → Type 0) (mentioned : List ℕ → Analysis → List Mention → Type 0) (formats : List ℕ → List ℕ → Type 0) (unformatted names : List ℕ → Type 0) (linked : Option (List ℕ) → List ℕ → Analysis → List FileLink → Type 0) (completed : List ℕ → List Mention → ℕ → Choices → Type 0) (fixed : List ℕ → List ℕ → Analysis → List QuickFix → Type 0) (body : List ℕ) (old new : Server) where
+module _ (knows : List ℕ → Analysis → Type 0) (finds : List ℕ → List ℕ → Analysis → List Finding → Type 0) (mentioned : List ℕ → Analysis → List Mention → Type 0) (formats : List ℕ → List ℕ → Type 0) (unformatted names : List ℕ → Type 0) (linked : Option (List ℕ) → List ℕ → Analysis → List FileLink → Type 0) (completed : List ℕ → List Mention → ℕ → Choices → Type 0) (fixed : List ℕ → List ℕ → Analysis → List QuickFix → Type 0) (signed : List ℕ → List Mention → ℕ → Option Signature → Type 0) (runs : List ℕ → Analysis → List Run → Type 0) (body : List ℕ) (old new : Server) where
   abbrev Does : (before after : Bytes) (exits : Option ℕ) → Type 0
-  Does before after exits = Handles knows finds mentioned formats unformatted names linked completed fixed body old new before after exits
+  Does before after exits = Handles knows finds mentioned formats unformatted names linked completed fixed signed runs body old new before after exits
 
   abbrev IsDone : Sent → Type 0
-  IsDone done = Answered knows finds mentioned formats unformatted names linked completed fixed body old new done
+  IsDone done = Answered knows finds mentioned formats unformatted names linked completed fixed signed runs body old new done
 
   pub done_silently : (before : Bytes) (done : Sent) → done ≡ outcomes.Nothing → IsDone done → Does before before None
   done_silently before done e is = answered outcomes.Nothing (subst IsDone e is) (refl, refl)
@@ -50,7 +52,7 @@ module _ (knows : List ℕ → Analysis → Type 0) (finds : List ℕ → List �
       answered (outcomes.Text text) (subst IsDone e is) (subst (λ (b : List ℕ). Writes b before after) same writes, goes)
   done_by_text (Err e) done text sent before after is it same writes goes = tt
 
-  pub not_done : {E : Type 0} (r : Result (Option ℕ) E) (before after : Bytes) → FailsAt knows finds mentioned formats unformatted names linked completed fixed body old new
+  pub not_done : {E : Type 0} (r : Result (Option ℕ) E) (before after : Bytes) → FailsAt knows finds mentioned formats unformatted names linked completed fixed signed runs body old new
       → OnOk r (Tells InternalError before after) → IfOk r (λ exits. exits ≡ None) → IfOk r (Does before after)
   not_done (Ok exits) before after fails tells goes = failed fails tells goes
   not_done (Err e) before after fails tells goes = tt

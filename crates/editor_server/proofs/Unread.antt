@@ -10,6 +10,8 @@ use Rattle.editor_language.specs.declared.parts.Choices.{Choices}
 use Rattle.editor_language.specs.declared.parts.FileLink.{FileLink}
 use Rattle.editor_language.specs.declared.parts.Finding.{Finding}
 use Rattle.editor_language.specs.declared.parts.QuickFix.{QuickFix}
+use Rattle.editor_language.specs.declared.parts.Run.{Run}
+use Rattle.editor_messages.specs.declared.answer.Signature.{Signature}
 use Rattle.editor_json.specs.Received.{IsParsed}
 use Rattle.editor_json.specs.Requests.{said_by, said_in}
 use Rattle.editor_server.proofs.Kept.{known_empty}
@@ -27,25 +29,25 @@ pub unread : {E : Type 0} (old new : Server) (reaction : Reaction) (r : Result S
 unread old new reaction (Ok done) loses refuses h = (loses, (reaction, refuses, h))
 unread old new reaction (Err e) loses refuses h = tt
 
-module _ (knows : List ℕ → Analysis → Type 0) (finds : List ℕ → List ℕ → Analysis → List Finding → Type 0) (mentioned : List ℕ → Analysis → List Mention → Type 0) (formats : List ℕ → List ℕ → Type 0) (unformatted names : List ℕ → Type 0) (linked : Option (List ℕ) → List ℕ → Analysis → List FileLink → Type 0) (completed : List ℕ → List Mention → ℕ → Choices → Type 0) (fixed : List ℕ → List ℕ → Analysis → List QuickFix → Type 0) (old new : Server) where
-  pub handled : {E : Type 0} (d : Data) (message : Message) (reaction : Reaction) (r : Result Sent E) → said_by message ≡ said_in d → Reacts knows finds mentioned formats unformatted names linked completed fixed message old new reaction → IfOk r (IsSent reaction)
-      → IfOk r (Handles knows finds mentioned formats unformatted names linked completed fixed d old new)
+module _ (knows : List ℕ → Analysis → Type 0) (finds : List ℕ → List ℕ → Analysis → List Finding → Type 0) (mentioned : List ℕ → Analysis → List Mention → Type 0) (formats : List ℕ → List ℕ → Type 0) (unformatted names : List ℕ → Type 0) (linked : Option (List ℕ) → List ℕ → Analysis → List FileLink → Type 0) (completed : List ℕ → List Mention → ℕ → Choices → Type 0) (fixed : List ℕ → List ℕ → Analysis → List QuickFix → Type 0) (signed : List ℕ → List Mention → ℕ → Option Signature → Type 0) (runs : List ℕ → Analysis → List Run → Type 0) (old new : Server) where
+  pub handled : {E : Type 0} (d : Data) (message : Message) (reaction : Reaction) (r : Result Sent E) → said_by message ≡ said_in d → Reacts knows finds mentioned formats unformatted names linked completed fixed signed runs message old new reaction → IfOk r (IsSent reaction)
+      → IfOk r (Handles knows finds mentioned formats unformatted names linked completed fixed signed runs d old new)
   handled d message reaction (Ok done) says reacts h = (message, reaction, says, reacts, h)
   handled d message reaction (Err e) says reacts h = tt
 
-  pub answered : {E : Type 0} (body : List ℕ) (value : Option Value) (r : Result Sent E) → IsParsed body value → IfOk r (HandlesParsed knows finds mentioned formats unformatted names linked completed fixed value old new)
-      → IfOk r (Answered knows finds mentioned formats unformatted names linked completed fixed body old new)
+  pub answered : {E : Type 0} (body : List ℕ) (value : Option Value) (r : Result Sent E) → IsParsed body value → IfOk r (HandlesParsed knows finds mentioned formats unformatted names linked completed fixed signed runs value old new)
+      → IfOk r (Answered knows finds mentioned formats unformatted names linked completed fixed signed runs body old new)
   answered body value (Ok done) is h = (value, is, h)
   answered body value (Err e) is h = tt
 
   -- what was done isn't sent
   pub unanswered : {A E : Type 0} (d : Data) (message : Message) (reaction : Reaction) (r : Result A E) → said_by message ≡ said_in d
-      → Reacts knows finds mentioned formats unformatted names linked completed fixed message old new reaction → OnErr r (Unanswered knows finds mentioned formats unformatted names linked completed fixed d old new)
+      → Reacts knows finds mentioned formats unformatted names linked completed fixed signed runs message old new reaction → OnErr r (Unanswered knows finds mentioned formats unformatted names linked completed fixed signed runs d old new)
   unanswered d message reaction (Ok done) says reacts = tt
   unanswered d message reaction (Err e) says reacts = unsent message reaction says reacts
 
   pub fails_at : {A E : Type 0} (body : List ℕ) (value : Option Value) (r : Result A E) → IsParsed body value
-      → OnErr r (UnansweredParsed knows finds mentioned formats unformatted names linked completed fixed value old new) → OnErr r (FailsAt knows finds mentioned formats unformatted names linked completed fixed body old new)
+      → OnErr r (UnansweredParsed knows finds mentioned formats unformatted names linked completed fixed signed runs value old new) → OnErr r (FailsAt knows finds mentioned formats unformatted names linked completed fixed signed runs body old new)
   fails_at body value (Ok done) is h = tt
   fails_at body value (Err e) is h = parsed value is h
 

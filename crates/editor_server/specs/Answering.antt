@@ -12,6 +12,8 @@ use Rattle.editor_language.specs.declared.parts.Choices.{Choices}
 use Rattle.editor_language.specs.declared.parts.FileLink.{FileLink}
 use Rattle.editor_language.specs.declared.parts.Finding.{Finding}
 use Rattle.editor_language.specs.declared.parts.QuickFix.{QuickFix}
+use Rattle.editor_language.specs.declared.parts.Run.{Run}
+use Rattle.editor_messages.specs.declared.answer.Signature.{Signature}
 use Rattle.editor_json.specs.Received.{IsParsed}
 use Rattle.editor_json.specs.Requests.{said_by, said_in}
 use Rattle.editor_json.specs.Sent.{error_data, published_data, reply_data}
@@ -46,10 +48,10 @@ pub record LosesTexts (old new : Server) : Type 0 where
 abbrev pub IsUnread : (old new : Server) (done : Sent) → Type 0
 IsUnread old new done = LosesTexts old new × ((reaction : Reaction) × IsRefusal None ParseError reaction × IsSent reaction done)
 
-module _ (knows : List ℕ → Analysis → Type 0) (finds : List ℕ → List ℕ → Analysis → List Finding → Type 0) (mentioned : List ℕ → Analysis → List Mention → Type 0) (formats : List ℕ → List ℕ → Type 0) (unformatted names : List ℕ → Type 0) (linked : Option (List ℕ) → List ℕ → Analysis → List FileLink → Type 0) (completed : List ℕ → List Mention → ℕ → Choices → Type 0) (fixed : List ℕ → List ℕ → Analysis → List QuickFix → Type 0) where
+module _ (knows : List ℕ → Analysis → Type 0) (finds : List ℕ → List ℕ → Analysis → List Finding → Type 0) (mentioned : List ℕ → Analysis → List Mention → Type 0) (formats : List ℕ → List ℕ → Type 0) (unformatted names : List ℕ → Type 0) (linked : Option (List ℕ) → List ℕ → Analysis → List FileLink → Type 0) (completed : List ℕ → List Mention → ℕ → Choices → Type 0) (fixed : List ℕ → List ℕ → Analysis → List QuickFix → Type 0) (signed : List ℕ → List Mention → ℕ → Option Signature → Type 0) (runs : List ℕ → Analysis → List Run → Type 0) where
   -- the server reacts to the message that a value is, and what it does is sent
   abbrev pub Handles : (d : Data) (old new : Server) (done : Sent) → Type 0
-  Handles d old new done = (message : Message) × (reaction : Reaction) × (said_by message ≡ said_in d) × Reacts knows finds mentioned formats unformatted names linked completed fixed message old new reaction × IsSent reaction done
+  Handles d old new done = (message : Message) × (reaction : Reaction) × (said_by message ≡ said_in d) × Reacts knows finds mentioned formats unformatted names linked completed fixed signed runs message old new reaction × IsSent reaction done
 
   -- a body is the value of a message, or no JSON
   abbrev pub HandlesParsed : Option Value → (old new : Server) (done : Sent) → Type 0
@@ -60,7 +62,7 @@ module _ (knows : List ℕ → Analysis → Type 0) (finds : List ℕ → List �
   pub data Unanswered (d : Data) (old new : Server) : Type 0 where
     lost : LosesTexts old new → Unanswered d old new
     failed : (message : Message) → said_by message ≡ said_in d → Fails message old new → Unanswered d old new
-    unsent : (message : Message) (reaction : Reaction) → said_by message ≡ said_in d → Reacts knows finds mentioned formats unformatted names linked completed fixed message old new reaction → Unanswered d old new
+    unsent : (message : Message) (reaction : Reaction) → said_by message ≡ said_in d → Reacts knows finds mentioned formats unformatted names linked completed fixed signed runs message old new reaction → Unanswered d old new
 
   abbrev pub UnansweredParsed : Option Value → (old new : Server) → Type 0
   UnansweredParsed (Some value) old new = Unanswered (view value) old new

@@ -24,6 +24,8 @@ use Rattle.editor_language.specs.declared.parts.Choices.{Choices}
 use Rattle.editor_language.specs.declared.parts.FileLink.{FileLink}
 use Rattle.editor_language.specs.declared.parts.Finding.{Finding}
 use Rattle.editor_language.specs.declared.parts.QuickFix.{QuickFix}
+use Rattle.editor_language.specs.declared.parts.Run.{Run}
+use Rattle.editor_messages.specs.declared.answer.Signature.{Signature}
 use Rattle.editor_answers.specs.Answers.{IsAnswer, IsRefused}
 use Rattle.editor_answers.specs.Ranges.{all_to_tell, told}
 use Rattle.editor_server.specs.Changed.{DocumentMap, IsStored}
@@ -118,10 +120,10 @@ reason_of ShutDown codes.MethodNotFound = codes.InvalidRequest
 reason_of ShutDown codes.InvalidParams = codes.InvalidRequest
 reason_of stage code = code
 
-module _ (knows : List ℕ → Analysis → Type 0) (mentioned : List ℕ → Analysis → List Mention → Type 0) (formats : List ℕ → List ℕ → Type 0) (unformatted names : List ℕ → Type 0) (linked : Option (List ℕ) → List ℕ → Analysis → List FileLink → Type 0) (completed : List ℕ → List Mention → ℕ → Choices → Type 0) (fixed : List ℕ → List ℕ → Analysis → List QuickFix → Type 0) where
+module _ (knows : List ℕ → Analysis → Type 0) (mentioned : List ℕ → Analysis → List Mention → Type 0) (formats : List ℕ → List ℕ → Type 0) (unformatted names : List ℕ → Type 0) (linked : Option (List ℕ) → List ℕ → Analysis → List FileLink → Type 0) (completed : List ℕ → List Mention → ℕ → Choices → Type 0) (fixed : List ℕ → List ℕ → Analysis → List QuickFix → Type 0) (signed : List ℕ → List Mention → ℕ → Option Signature → Type 0) (runs : List ℕ → Analysis → List Run → Type 0) where
   -- the answer about the document that is at an address
   abbrev pub IsAnswerAbout : Encoding → (uri : List ℕ) → Query → Option Document → Answer → Type 0
-  IsAnswerAbout encoding uri query (Some d) answer = IsAnswer knows mentioned encoding uri (string_bytes d.text) d.analysis formats unformatted names linked completed fixed query answer
+  IsAnswerAbout encoding uri query (Some d) answer = IsAnswer knows mentioned encoding uri (string_bytes d.text) d.analysis formats unformatted names linked completed fixed signed runs query answer
   IsAnswerAbout encoding uri query None answer = ⊥
 
   -- the answer to a request

@@ -14,6 +14,8 @@ use Rattle.editor_language.specs.declared.parts.Choices.{Choices}
 use Rattle.editor_language.specs.declared.parts.FileLink.{FileLink}
 use Rattle.editor_language.specs.declared.parts.Finding.{Finding}
 use Rattle.editor_language.specs.declared.parts.QuickFix.{QuickFix}
+use Rattle.editor_language.specs.declared.parts.Run.{Run}
+use Rattle.editor_messages.specs.declared.answer.Signature.{Signature}
 use Rattle.editor_json.specs.Sent.{error_data}
 use Rattle.editor_server.specs.Answering.{Answered, FailsAt, LosesTexts}
 use Rattle.editor_server.specs.declared.reaction.Stage.TheVariants.{New}
@@ -52,12 +54,12 @@ pub record Moment : Type 0 where
   pub input : Bytes
   pub output : Bytes
 
-module _ (knows : List ℕ → Analysis → Type 0) (finds : List ℕ → List ℕ → Analysis → List Finding → Type 0) (mentioned : List ℕ → Analysis → List Mention → Type 0) (formats : List ℕ → List ℕ → Type 0) (unformatted names : List ℕ → Type 0) (linked : Option (List ℕ) → List ℕ → Analysis → List FileLink → Type 0) (completed : List ℕ → List Mention → ℕ → Choices → Type 0) (fixed : List ℕ → List ℕ → Analysis → List QuickFix → Type 0) where
+module _ (knows : List ℕ → Analysis → Type 0) (finds : List ℕ → List ℕ → Analysis → List Finding → Type 0) (mentioned : List ℕ → Analysis → List Mention → Type 0) (formats : List ℕ → List ℕ → Type 0) (unformatted names : List ℕ → Type 0) (linked : Option (List ℕ) → List ℕ → Analysis → List FileLink → Type 0) (completed : List ℕ → List Mention → ℕ → Choices → Type 0) (fixed : List ℕ → List ℕ → Analysis → List QuickFix → Type 0) (signed : List ℕ → List Mention → ℕ → Option Signature → Type 0) (runs : List ℕ → Analysis → List Run → Type 0) where
   -- the server reacts to a body, and what that calls for was written; or memory ran out, and that is told
   pub data Handles (body : List ℕ) (old new : Server) (before after : Bytes) (exits : Option ℕ) : Type 0 where
-    answered : (done : Sent) → Answered knows finds mentioned formats unformatted names linked completed fixed body old new done → Delivers done before after exits
+    answered : (done : Sent) → Answered knows finds mentioned formats unformatted names linked completed fixed signed runs body old new done → Delivers done before after exits
         → Handles body old new before after exits
-    failed : FailsAt knows finds mentioned formats unformatted names linked completed fixed body old new → Tells InternalError before after → exits ≡ None → Handles body old new before after exits
+    failed : FailsAt knows finds mentioned formats unformatted names linked completed fixed signed runs body old new → Tells InternalError before after → exits ≡ None → Handles body old new before after exits
 
   -- What is received is handled. At the end of the input the server exits. What isn't read may have changed any text.
   abbrev pub Takes : Received → (old new : Server) (before after : Bytes) (exits : Option ℕ) → Type 0

@@ -14,6 +14,8 @@ use Rattle.editor_language.specs.declared.parts.Choices.{Choices}
 use Rattle.editor_language.specs.declared.parts.FileLink.{FileLink}
 use Rattle.editor_language.specs.declared.parts.Finding.{Finding}
 use Rattle.editor_language.specs.declared.parts.QuickFix.{QuickFix}
+use Rattle.editor_language.specs.declared.parts.Run.{Run}
+use Rattle.editor_messages.specs.declared.answer.Signature.{Signature}
 use Rattle.editor_answers.specs.declared.failure.Failure.{Failure}
 use Rattle.editor_answers.specs.declared.failure.Failure.TheVariants.{Memory, Refused}
 use Rattle.editor_server.specs.Model.{Answers, LeavesOnError, Notes, Refuses, Replies, encoding_after, reason_of, stage_after}
@@ -49,11 +51,11 @@ IsMade id (Ok answer) reaction = reaction ≡ reactions.Reply id answer
 IsMade id (Err (Refused code message)) reaction = IsRefusal (Some id) code reaction
 IsMade id (Err Memory) reaction = ⊥
 
-module _ (knows : List ℕ → Analysis → Type 0) (finds : List ℕ → List ℕ → Analysis → List Finding → Type 0) (mentioned : List ℕ → Analysis → List Mention → Type 0) (formats : List ℕ → List ℕ → Type 0) (unformatted names : List ℕ → Type 0) (linked : Option (List ℕ) → List ℕ → Analysis → List FileLink → Type 0) (completed : List ℕ → List Mention → ℕ → Choices → Type 0) (fixed : List ℕ → List ℕ → Analysis → List QuickFix → Type 0) where
+module _ (knows : List ℕ → Analysis → Type 0) (finds : List ℕ → List ℕ → Analysis → List Finding → Type 0) (mentioned : List ℕ → Analysis → List Mention → Type 0) (formats : List ℕ → List ℕ → Type 0) (unformatted names : List ℕ → Type 0) (linked : Option (List ℕ) → List ℕ → Analysis → List FileLink → Type 0) (completed : List ℕ → List Mention → ℕ → Choices → Type 0) (fixed : List ℕ → List ℕ → Analysis → List QuickFix → Type 0) (signed : List ℕ → List Mention → ℕ → Option Signature → Type 0) (runs : List ℕ → Analysis → List Run → Type 0) where
   -- A request is answered or refused under its own id, by the document's own text and what is known of it. What is told changes the document that it names, and no other one.
   abbrev pub Reacts : Message → (old new : Server) → Reaction → Type 0
   Reacts (messages.Request id request) old new reaction =
-      Replies id (Answers knows mentioned formats unformatted names linked completed fixed old.stage old.encoding old.documents request) (Refuses knows mentioned names old.stage old.encoding old.documents request) reaction × AfterAll request old new
+      Replies id (Answers knows mentioned formats unformatted names linked completed fixed signed runs old.stage old.encoding old.documents request) (Refuses knows mentioned names old.stage old.encoding old.documents request) reaction × AfterAll request old new
   Reacts (messages.Notification it) old new reaction = Goes (Notes knows finds old.stage old.encoding it old.documents new.documents reaction) old new
   Reacts (messages.Wrong id code) old new reaction = IsRefusal id (reason_of old.stage code) reaction × (new ≡ old)
   Reacts messages.Ignored old new reaction = (reaction ≡ reactions.Silent) × (new ≡ old)

@@ -57,9 +57,9 @@ impl Server {
     ) -> Result<Sent, AllocError>
         requires { AreKnown L.knows self.old.documents.list }
         ensures ok { IfOk result (Answered L.knows L.finds L.mentioned L.formats L.unformatted L.names
-            L.linked L.completed L.fixed body.now self.old self.new) }
+            L.linked L.completed L.fixed L.signed L.runs body.now self.old self.new) }
         ensures failed { OnErr result (FailsAt L.knows L.finds L.mentioned L.formats L.unformatted
-            L.names L.linked L.completed L.fixed body.now self.old self.new) }
+            L.names L.linked L.completed L.fixed L.signed L.runs body.now self.old self.new) }
         ensures known { AreKnown L.knows self.new.documents.list }
     {
         match parsed(alloc, body) {
@@ -81,9 +81,10 @@ impl Server {
     ) -> Result<Sent, AllocError>
         requires { AreKnown L.knows self.old.documents.list }
         ensures ok { IfOk result (HandlesParsed L.knows L.finds L.mentioned L.formats L.unformatted
-            L.names L.linked L.completed L.fixed value.now self.old self.new) }
+            L.names L.linked L.completed L.fixed L.signed L.runs value.now self.old self.new) }
         ensures failed { OnErr result (UnansweredParsed L.knows L.finds L.mentioned L.formats
-            L.unformatted L.names L.linked L.completed L.fixed value.now self.old self.new) }
+            L.unformatted L.names L.linked L.completed L.fixed L.signed L.runs
+            value.now self.old self.new) }
         ensures known { AreKnown L.knows self.new.documents.list }
     {
         match value {
@@ -102,9 +103,10 @@ impl Server {
     ) -> Result<Sent, AllocError>
         requires { AreKnown L.knows self.old.documents.list }
         ensures ok { IfOk result (Handles L.knows L.finds L.mentioned L.formats L.unformatted L.names
-            L.linked L.completed L.fixed (view value.now) self.old self.new) }
+            L.linked L.completed L.fixed L.signed L.runs (view value.now) self.old self.new) }
         ensures failed { OnErr result (Unanswered L.knows L.finds L.mentioned L.formats L.unformatted
-            L.names L.linked L.completed L.fixed (view value.now) self.old self.new) }
+            L.names L.linked L.completed L.fixed L.signed L.runs
+            (view value.now) self.old self.new) }
         ensures known { AreKnown L.knows self.new.documents.list }
     {
         match message_of(alloc, value) {
@@ -144,7 +146,7 @@ impl Server {
     ) -> Result<Reaction<'a>, AllocError>
         requires { AreKnown L.knows self.old.documents.list }
         ensures ok { IfOk result (Reacts L.knows L.finds L.mentioned L.formats L.unformatted L.names
-            L.linked L.completed L.fixed message.entry self.old self.new) }
+            L.linked L.completed L.fixed L.signed L.runs message.entry self.old self.new) }
         ensures failed { OnErr result (Fails message.entry self.old self.new) }
         ensures known { AreKnown L.knows self.new.documents.list }
     {
@@ -182,8 +184,8 @@ impl Server {
     ) -> Result<Reaction<'a>, AllocError>
         ensures ok { IfOk result (Replies id.entry
             (Answers L.knows L.mentioned L.formats L.unformatted L.names L.linked L.completed
-            L.fixed
-            self.old.stage self.old.encoding self.old.documents request.entry)
+            L.fixed L.signed L.runs self.old.stage self.old.encoding self.old.documents
+            request.entry)
             (Refuses L.knows L.mentioned L.names self.old.stage self.old.encoding
             self.old.documents request.entry)) }
         ensures after { AfterAll request.entry self.old self.new }
@@ -200,7 +202,8 @@ impl Server {
         request: Request<'_>,
     ) -> Result<Answer, Failure>
         ensures ok { IfOk result (Answers L.knows L.mentioned L.formats L.unformatted L.names
-            L.linked L.completed L.fixed self.old.stage self.old.encoding self.old.documents
+            L.linked L.completed L.fixed L.signed L.runs
+            self.old.stage self.old.encoding self.old.documents
             request.entry) }
         ensures failed { IfErr result (FailsFor (Refuses L.knows L.mentioned L.names self.old.stage
             self.old.encoding self.old.documents request.entry)) }
@@ -217,7 +220,8 @@ impl Server {
     fn begin<L: Language>(&mut self, _language: &L, request: Request<'_>) -> Result<Answer, Failure>
         requires { self.old.stage ≡ New }
         ensures ok { IfOk result (Answers L.knows L.mentioned L.formats L.unformatted L.names
-            L.linked L.completed L.fixed self.old.stage self.old.encoding self.old.documents
+            L.linked L.completed L.fixed L.signed L.runs
+            self.old.stage self.old.encoding self.old.documents
             request.entry) }
         ensures failed { IfErr result (FailsFor (Refuses L.knows L.mentioned L.names self.old.stage
             self.old.encoding self.old.documents request.entry)) }
@@ -245,7 +249,8 @@ impl Server {
     ) -> Result<Answer, Failure>
         requires { self.old.stage ≡ Working }
         ensures ok { IfOk result (Answers L.knows L.mentioned L.formats L.unformatted L.names
-            L.linked L.completed L.fixed self.old.stage self.old.encoding self.old.documents
+            L.linked L.completed L.fixed L.signed L.runs
+            self.old.stage self.old.encoding self.old.documents
             request.entry) }
         ensures failed { IfErr result (FailsFor (Refuses L.knows L.mentioned L.names self.old.stage
             self.old.encoding self.old.documents request.entry)) }
@@ -270,7 +275,8 @@ impl Server {
         query: Query<'_>,
     ) -> Result<Answer, Failure>
         ensures ok { IfOk result (IsAnswerAbout L.knows L.mentioned L.formats L.unformatted
-            L.names L.linked L.completed L.fixed self.now.encoding uri.now query.entry
+            L.names L.linked L.completed L.fixed L.signed L.runs
+            self.now.encoding uri.now query.entry
             (get_by_text self.now.documents.list uri.now)) }
         ensures failed { IfErr result (FailsFor (IsRefusedAbout L.knows L.mentioned L.names
             self.now.encoding uri.now query.entry

@@ -32,7 +32,8 @@ pub fn serve<L: Language, R: BufRead, W: Write>(
     writer: &mut W,
 ) -> io::Result<u8>
     ensures { IfOk result (λ status. IsServed L.knows L.finds L.mentioned L.formats L.unformatted L.names
-        L.linked L.completed L.fixed (R.remaining reader.old) (W.contents writer.old) status
+        L.linked L.completed L.fixed L.signed L.runs
+        (R.remaining reader.old) (W.contents writer.old) status
         (R.remaining reader.new) (W.contents writer.new)) }
 {
     let mut server = Server::new(alloc);
@@ -57,7 +58,8 @@ fn answer<L: Language, W: Write>(
     requires { AreKnown L.knows server.old.documents.list }
     ensures known { AreKnown L.knows server.new.documents.list }
     ensures takes { IfOk result (Takes L.knows L.finds L.mentioned L.formats L.unformatted L.names
-        L.linked L.completed L.fixed received server.old server.new (W.contents writer.old)
+        L.linked L.completed L.fixed L.signed L.runs
+        received server.old server.new (W.contents writer.old)
         (W.contents writer.new)) }
 {
     match received {
@@ -87,7 +89,8 @@ fn react<L: Language, W: Write>(
     requires { AreKnown L.knows server.old.documents.list }
     ensures known { AreKnown L.knows server.new.documents.list }
     ensures handles { IfOk result (Handles L.knows L.finds L.mentioned L.formats L.unformatted L.names
-        L.linked L.completed L.fixed body.now server.old server.new (W.contents writer.old)
+        L.linked L.completed L.fixed L.signed L.runs
+        body.now server.old server.new (W.contents writer.old)
         (W.contents writer.new)) }
 {
     match server.react(alloc, language, body) {

@@ -7,12 +7,12 @@ use Rattle.justfile_completion.specs.Parameters.{named_after, precedes_other}
 use Rattle.justfile_completion.specs.Words.{closed_before, outside}
 
 -- an element is kept, or not
-kept : {A : Type 0} (b : Bool) (found : List A) (x : A) (rest : List A) → (found ++ cond b (x ∷ []) []) ++ rest ≡ found ++ cond b (x ∷ rest) rest
+pub kept : {A : Type 0} (b : Bool) (found : List A) (x : A) (rest : List A) → (found ++ cond b (x ∷ []) []) ++ rest ≡ found ++ cond b (x ∷ rest) rest
 kept true found x rest = append_assoc found (x ∷ []) rest
 kept false found x rest = ap (λ l. l ++ rest) (append-nil found)
 
 -- the rest of a list, by its first element
-at_rest : {A : Type 0} (xs : List A) (i : ℕ) (x : A) → i < length xs → x ≡ get_or xs i x → drop i xs ≡ x ∷ drop (i + 1) xs
+pub at_rest : {A : Type 0} (xs : List A) (i : ℕ) (x : A) → i < length xs → x ≡ get_or xs i x → drop i xs ≡ x ∷ drop (i + 1) xs
 at_rest xs i x inside at = drop_more xs i x inside ∙ ap (λ y. y ∷ drop (i + 1) xs) (sym at)
 
 pub outside_step : (found more all words : List Token) (closed i : ℕ) (x : Token) → i < length words → x ≡ get_or words i x → found ++ outside closed (drop i words) ≡ all → more ≡ found ++ cond (closed == 0) (x ∷ []) []

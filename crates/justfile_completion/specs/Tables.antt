@@ -1,5 +1,8 @@
 -- What is always offered.
-use Rattle.std.specs.Prelude.{List, [], map}
+use Rattle.std.specs.Prelude.{ℕ, List, [], Option, map, option_map}
+use Rattle.std.specs.List.{find}
+use Rattle.std.specs.Option.{option_or}
+use Rattle.std.specs.Str.{bytes_eq}
 use Rattle.justfile_completion.specs.Offers.{Told, told_by}
 use Rattle.justfile_completion.specs.declared.place.Place.{Place}
 use Rattle.justfile_completion.specs.declared.place.Place.TheVariants as places
@@ -32,3 +35,11 @@ built_in FunctionsToJ = map (λ w. told_by w.0 w.1.now w.2.now w.3.now) FUNCTION
 built_in FunctionsToR = map (λ w. told_by w.0 w.1.now w.2.now w.3.now) FUNCTIONS_TO_R
 built_in FunctionsToZ = map (λ w. told_by w.0 w.1.now w.2.now w.3.now) FUNCTIONS_TO_Z
 built_in Keywords = map (λ w. told_by w.0 w.1.now w.2.now w.3.now) OPERAND_KEYWORDS
+
+-- what is shown beside a name in a part of what is built in, if it is there
+abbrev pub shown_in : (name : List ℕ) → BuiltIns → Option (List ℕ)
+shown_in name part = option_map (λ (t : Told). t.detail) (find (λ (t : Told). bytes_eq t.name name) (built_in part))
+
+-- the parameters of the built-in function with this name, in parentheses, if there is one
+abbrev pub shown_parameters : (name : List ℕ) → Option (List ℕ)
+shown_parameters name = option_or (option_or (option_or (shown_in name FunctionsToD) (shown_in name FunctionsToJ)) (shown_in name FunctionsToR)) (shown_in name FunctionsToZ)

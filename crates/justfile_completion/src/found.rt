@@ -1,9 +1,11 @@
 //! What can be written at the cursor.
-ghost use Rattle.std.specs.Prelude.{◌≡◌, ◌++◌, IfNone, IfOk, IfSome, None, filter, length, map, min, nat_lt};
+ghost use Rattle.std.specs.Prelude.{◌≡◌, ◌++◌, IfNone, IfOk, IfSome, None, filter, length, map, min, nat_lt, option_map};
+ghost use Rattle.justfile_completion.specs.Calls.{call_told, called_by};
 ghost use Rattle.justfile_completion.specs.Completions.{AreAfter, AreAt, AreCompletions, AreFound, AreInItem, HasFound, begins_with, candidates_after, some_of, told_of};
 ghost use Rattle.justfile_completion.specs.Cursor.{AreTokens, HasNoTokens};
 ghost use Rattle.justfile_completion.specs.Offers.{told};
 
+use crate::call::{Call, call_at};
 use crate::candidates::candidates;
 use crate::cursor::{front_of, last_item, word_end, word_start};
 use crate::offer::{Offer, OfferKind};
@@ -49,9 +51,14 @@ pub struct Completions {
     pub is_incomplete: bool,
     /// The texts, in the order of their names.
     pub found: Vec<Completion>,
+    /// What is called, if an argument is written.
+    pub call: Option<Call>,
 }
 
-/// Returns what can be written at an offset of a text. These names are known of the text.
+/// What can be written, whether there is more than the limit, and what is called.
+type Found = (Vec<Completion>, bool, Option<Call>);
+
+/// Returns what can be written at an offset of a text, and what is called there. These names are known of the text.
 ///
 /// The place is found by the tokens before the word that the cursor is in: those of the text before it,
 /// or, if that can't be cut into tokens, those of the item that it ends with. In a string, a command and
@@ -75,12 +82,13 @@ pub fn completions_at(
     let start = word_start(bytes, cursor);
     let end = word_end(bytes, cursor);
     let typed = &bytes[start..cursor];
-    let (found, is_incomplete) = found_at(alloc, names, front_of(text, start), typed)?;
+    let (found, is_incomplete, call) = found_at(alloc, names, front_of(text, start), typed)?;
     Ok(Completions {
         start,
         end,
         is_incomplete,
         found,
+        call,
     })
 }
 
@@ -91,8 +99,8 @@ fn found_at(
     names: &[Offer<'_>],
     front: &str,
     typed: &[u8],
-) -> Result<(Vec<Completion>, bool), AllocError>
-    ensures { IfOk result (λ r. AreAt names.now front.now typed.now r.0.items r.1) }
+) -> Result<Found, AllocError>
+    ensures { IfOk result (λ r. AreAt names.now front.now typed.now r.0.items r.1 r.2) }
 {
     match found_after(alloc, names, front, typed, &ENDS)? {
         Some(found) => Ok(found),
@@ -107,12 +115,12 @@ fn found_in_item(
     names: &[Offer<'_>],
     item: &str,
     typed: &[u8],
-) -> Result<(Vec<Completion>, bool), AllocError>
-    ensures { IfOk result (λ r. AreInItem names.now item.now typed.now r.0.items r.1) }
+) -> Result<Found, AllocError>
+    ensures { IfOk result (λ r. AreInItem names.now item.now typed.now r.0.items r.1 r.2) }
 {
     match found_after(alloc, names, item, typed, &ENDS)? {
         Some(found) => Ok(found),
-        None => Ok((Vec::new(alloc), false)),
+        None => Ok((Vec::new(alloc), false, None)),
     }
 }
 
@@ -124,9 +132,9 @@ fn found_after(
     front: &str,
     typed: &[u8],
     ends: &[&str],
-) -> Result<Option<(Vec<Completion>, bool)>, AllocError>
+) -> Result<Option<Found>, AllocError>
     ensures some { IfOk result (λ found. IfSome found (λ r. AreAfter names.now front.now
-        typed.now (map (λ end. end.now) ends.now) r.0.items r.1)) }
+        typed.now (map (λ end. end.now) ends.now) r.0.items r.1 r.2)) }
     ensures none { IfOk result (λ found. IfNone found
         (AreTokens front.now (map (λ end. end.now) ends.now) None)) }
 {
@@ -146,9 +154,9 @@ fn found_with(
     front: &str,
     typed: &[u8],
     end: &str,
-) -> Result<Option<(Vec<Completion>, bool)>, AllocError>
+) -> Result<Option<Found>, AllocError>
     ensures some { IfOk result (λ found. IfSome found (λ r. HasFound names.now
-        (front.now ++ end.now) (length front.now) typed.now r.0.items r.1)) }
+        (front.now ++ end.now) (length front.now) typed.now r.0.items r.1 r.2)) }
     ensures none { IfOk result (λ found. IfNone found (HasNoTokens (front.now ++ end.now))) }
 {
     let closed = format!(in alloc; "{front}{end}")?;
@@ -163,20 +171,39 @@ fn found_in(
     text: &str,
     cursor: usize,
     typed: &[u8],
-) -> Result<Option<(Vec<Completion>, bool)>, AllocError>
+) -> Result<Option<Found>, AllocError>
     ensures some { IfOk result (λ found. IfSome found
-        (λ r. HasFound names.now text.now cursor typed.now r.0.items r.1)) }
+        (λ r. HasFound names.now text.now cursor typed.now r.0.items r.1 r.2)) }
     ensures none { IfOk result (λ found. IfNone found (HasNoTokens text.now)) }
 {
     match Lexer::lex(alloc, "justfile", text) {
         Ok(tokens) => {
-            let found = found_by(alloc, names, tokens_before(&tokens, cursor), cursor, typed)?;
+            let before = tokens_before(&tokens, cursor);
+            let found = found_before(alloc, names, before, cursor, typed)?;
             Ok(Some(found))
         }
         Err(Fault::Memory) => Err(AllocError),
         Err(Fault::Compile(_)) => Ok(None),
         Err(Fault::Numbers) => Ok(None),
     }
+}
+
+/// Returns what can be written at the cursor, and what is called there, by the tokens that begin before
+/// it.
+fn found_before(
+    alloc: Global,
+    names: &[Offer<'_>],
+    tokens: &[Token<'_>],
+    cursor: usize,
+    typed: &[u8],
+) -> Result<Found, AllocError>
+    ensures found { IfOk result (λ r. AreFound (candidates_after names.now cursor tokens.now)
+        typed.now r.0.items r.1) }
+    ensures call { IfOk result (λ r. option_map call_told r.2 ≡ called_by cursor tokens.now) }
+{
+    let call = call_at(alloc, tokens, cursor)?;
+    let (found, is_incomplete) = found_by(alloc, names, tokens, cursor, typed)?;
+    Ok((found, is_incomplete, call))
 }
 
 /// Returns what can be written at the cursor, by the tokens that begin before it.

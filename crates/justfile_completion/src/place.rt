@@ -279,7 +279,7 @@ fn in_dependency(words: &[Token<'_>]) -> Place
 }
 
 /// Whether the line is the header of a recipe.
-fn is_header(words: &[Token<'_>]) -> bool
+pub(crate) fn is_header(words: &[Token<'_>]) -> bool
     ensures { result ≡ is_header words.now }
 {
     has_colon(words) && !has_assign(words)

@@ -1,11 +1,13 @@
 //! What is always offered, with what is shown of it: the words of the language, each with a short text.
-ghost use Rattle.std.specs.Prelude.{◌≡◌, ◌++◌, filter, map};
+ghost use Rattle.std.specs.Prelude.{◌≡◌, ◌++◌, filter, map, option_copied};
+ghost use Rattle.std.specs.List.{find};
+ghost use Rattle.std.specs.Str.{bytes_eq};
 ghost use Rattle.justfile_builtins.specs.declared.constants.TheConstants as built_in_constants;
 ghost use Rattle.justfile_builtins.specs.declared.functions.TheConstants as built_in_functions;
 ghost use Rattle.justfile_vocabulary.specs.AttributeKind.{attribute_kinds, attribute_name};
 ghost use Rattle.justfile_vocabulary.specs.Keyword.{is_setting_name, keyword_text, keywords};
 ghost use Rattle.justfile_completion.specs.Offers.{told_by};
-ghost use Rattle.justfile_completion.specs.Tables.{built_in, table_of};
+ghost use Rattle.justfile_completion.specs.Tables.{built_in, shown_in, shown_parameters, table_of};
 
 pub(crate) mod attributes;
 pub(crate) mod constants;
@@ -144,6 +146,35 @@ pub(crate) fn built_in(part: BuiltIns) -> &'static [Entry]
         BuiltIns::FunctionsToZ => &FUNCTIONS_TO_Z,
         BuiltIns::Keywords => &OPERAND_KEYWORDS,
     }
+}
+
+/// Returns what is shown beside the name of a function in a part of what is built in, if it is there.
+#[tactic(auto, using(crate::proofs::Shown::shown_beside, crate::proofs::Shown::not_shown))]
+fn shown_in(part: BuiltIns, name: &str) -> Option<&'static str>
+    ensures { option_copied result ≡ shown_in name.now part }
+{
+    match entry_named(built_in(part), name) {
+        Some(entry) => Some(entry.2),
+        None => None,
+    }
+}
+
+/// Returns the first word that is this one.
+fn entry_named(entries: &'static [Entry], name: &str) -> Option<&'static Entry>
+    ensures { option_copied result ≡ find (λ e. bytes_eq e.1.now name.now) entries.now }
+{
+    entries.iter().find(|entry| entry.1 == name)
+}
+
+/// Returns the parameters of the built-in function with a name, in parentheses, if there is one.
+pub fn parameters_shown(name: &str) -> Option<&'static str>
+    ensures { option_copied result ≡ shown_parameters name.now }
+{
+    let first = shown_in(BuiltIns::FunctionsToD, name);
+    let second = shown_in(BuiltIns::FunctionsToJ, name);
+    let third = shown_in(BuiltIns::FunctionsToR, name);
+    let last = shown_in(BuiltIns::FunctionsToZ, name);
+    first.or(second).or(third).or(last)
 }
 
 /// The settings that are offered are all settings, in their order.

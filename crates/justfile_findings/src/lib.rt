@@ -6,6 +6,7 @@ mod fixing;
 mod known;
 mod listing;
 mod near;
+mod settings;
 mod told;
 
 pub use crate::fixing::fixes;

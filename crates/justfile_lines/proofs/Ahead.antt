@@ -1,19 +1,20 @@
 -- Going along a text: the last place that isn't past a position is the offset of the position.
-use Rattle.std.proofs.Common.{◌≡◌, ◌==◌, ◌&&◌, ℕ, zero, suc, ◌+◌, ◌-◌, ◌<◌, ◌≤◌, Bool, true, false, List, [], ◌∷◌, ◌++◌, length, take, drop, get_or, cond, refl, sym, ap, subst, ◌∙◌, ◌⊎◌, ◌↔◌, arith, inl, inr}
-use Rattle.std.specs.Prelude.{nat_lt}
+use Rattle.std.proofs.Common.{◌≡◌, ◌==◌, ℕ, zero, suc, ◌+◌, ◌-◌, ◌<◌, ◌≤◌, Bool, true, false, List, [], ◌∷◌, ◌++◌, length, take, drop, get_or, cond, refl, sym, ap, subst, ◌∙◌, ◌↔◌, arith, inl, inr}
+use Rattle.memchr.specs.Find.{NoneBefore, Passes, is_byte}
 use Rattle.std.specs.Str.{IsCharBoundary, IsUtf8}
-use Rattle.std.proofs.lemmas.Bool.{and_parts, cases_Bool, cases_eq, cases_lt, cond-true, cond-false, eq-eqb, eqb-true, le-ltb, lt-ltb, ltb-true, ne_eqb, or_cases}
-use Rattle.std.proofs.lemmas.List.{take_all, take_more, take-append-drop, take-take, length-take-le}
-use Rattle.std.proofs.lemmas.List.Sums.{count_by_more_no, sum_by-cons}
+use Rattle.std.proofs.lemmas.Bool.{cases_Bool, cases_eq, cases_lt, eqb-true, ne_eqb}
+use Rattle.std.proofs.lemmas.Bool.Decides.{nat_tests}
+use Rattle.std.proofs.lemmas.List.{drop-take, take_all, take_more, take-append-drop, take-take, length-append, length-take-le}
+use Rattle.std.proofs.lemmas.List.Sums.{count_by_more_no, sum_by-append, sum_by-cons}
 use Rattle.std.proofs.lemmas.Str.{IsCharBoundary-end}
 use Rattle.justfile_lines.specs.declared.encoding.Encoding.{Encoding}
-use Rattle.justfile_lines.specs.declared.encoding.Encoding.TheVariants.{Utf8, Utf16}
 use Rattle.justfile_lines.specs.declared.position.Place.{Place}
 use Rattle.justfile_lines.specs.declared.position.Position.{Position}
-use Rattle.justfile_lines.specs.Going.{IsInText, IsUpTo, after_byte, after_size, first_place, is_past, place_after, size_between}
+use Rattle.justfile_lines.specs.Going.{IsBefore, IsInText, IsUpTo, after_byte, after_size, first_place, is_past, place_after, size_between}
 use Rattle.justfile_lines.specs.Positions.{IsOffset, byte_units, column_at, feeds, last_line, line_at, width}
 use Rattle.justfile_lines.specs.Starts.{IsStart}
-use Rattle.justfile_lines.proofs.Columns.{column_from, first_start, line_after, lines_grow, start_after, without_feeds}
+use Rattle.justfile_lines.proofs.Searches.{no_feeds, rest_from, rest_is}
+use Rattle.justfile_lines.proofs.Columns.{column_from, last_after, first_start, line_after, lines_grow, start_after, units_bound, without_feeds}
 
 -- ---- places after texts
 
@@ -39,88 +40,48 @@ line_is encoding p (c ∷ text) = omega (arith, line_is encoding (after_byte enc
 column_grows : (encoding : Encoding) (p : Place) (text : List ℕ) → feeds text ≡ 0 → (place_after encoding p text).position.column ≡ p.position.column + width encoding text
 column_grows encoding p [] none = omega arith
 column_grows encoding p (c ∷ text) none =
-    let split : feeds (c ∷ text) ≡ is_feed c + feeds text = sum_by-cons is_feed c text in
-    elim (cases_Bool (c == 10)) [
-      | inl e ↦ absurd (omega (arith, split, none, cond-true {A = ℕ} (c == 10) 1 0 e))
-      | inr e ↦
-          let step : (after_byte encoding p c).position.column ≡ p.position.column + byte_units encoding c = rw e refl in
-          omega (arith, column_grows encoding (after_byte encoding p c) text (omega (arith, split, none)), step, sum_by-cons (byte_units encoding) c text)
-    ]
+    grind (arith, nat_tests, column_grows encoding (after_byte encoding p c) text, sum_by-cons is_feed c text, sum_by-cons (byte_units encoding) c text)
 
 -- after a line feed it is the width of what follows the last one
 column_after_feed : (encoding : Encoding) (p : Place) (text : List ℕ) → 0 < feeds text → (place_after encoding p text).position.column ≡ width encoding (last_line text)
 column_after_feed encoding p [] some = absurd (omega (arith, some))
 column_after_feed encoding p (c ∷ text) some =
-    let q = after_byte encoding p c in
-    let split : feeds (c ∷ text) ≡ is_feed c + feeds text = sum_by-cons is_feed c text in
-    let same : last_line (c ∷ text) ≡ last_line text = cond-true _ (last_line text) (c ∷ text) (lt-ltb 0 (feeds (c ∷ text)) some) in
-    elim (cases_lt 0 (feeds text)) [
-      | inl more ↦ column_after_feed encoding q text more ∙ ap (width encoding) (sym same)
-      | inr none ↦ elim (cases_Bool (c == 10)) [
-        | inl e ↦
-            let step : q.position.column ≡ 0 = rw e refl in
-            let plain : q.position.column + width encoding text ≡ width encoding text = omega (arith, step) in
-            column_grows encoding q text (omega (arith, none))
-            ∙ plain
-            ∙ ap (width encoding) (sym (without_feeds text (omega (arith, none))))
-            ∙ ap (width encoding) (sym same)
-        | inr e ↦ absurd (omega (arith, split, none, some, cond-false {A = ℕ} (c == 10) 1 0 e))
-      ]
-    ]
+    grind (
+      arith,
+      nat_tests,
+      column_after_feed encoding (after_byte encoding p c) text,
+      column_grows encoding (after_byte encoding p c) text,
+      without_feeds text,
+      sum_by-cons is_feed c text,
+    )
 
 pub column_is : (encoding : Encoding) (text : List ℕ) → (place_after encoding first_place text).position.column ≡ width encoding (last_line text)
 column_is encoding text =
-    elim (cases_lt 0 (feeds text)) [
-      | inl some ↦ column_after_feed encoding first_place text some
-      | inr none ↦
-          let plain : first_place.position.column + width encoding text ≡ width encoding text = omega arith in
-          column_grows encoding first_place text (omega (arith, none)) ∙ plain ∙ ap (width encoding) (sym (without_feeds text (omega (arith, none))))
-    ]
+    grind (arith, nat_tests, column_after_feed encoding first_place text, column_grows encoding first_place text, without_feeds text)
+
+-- the size of a text by its lines
+pub counted : (encoding : Encoding) (text last : List ℕ) (line column : ℕ) → line ≡ feeds text → last ≡ last_line text → column ≡ width encoding last
+    → (record { offset = length text; position = record { line = line; column = column } }) ≡ place_after encoding first_place text
+counted encoding text last line column number is wide =
+    let place = place_after encoding first_place text in
+    let at : length text ≡ place.offset = omega (arith, offset_is encoding first_place text) in
+    let down : line ≡ place.position.line = omega (arith, line_is encoding first_place text, number) in
+    let along : column ≡ place.position.column = wide ∙ ap (width encoding) is ∙ sym (column_is encoding text) in
+    λ i. record { offset = at i; position = record { line = down i; column = along i } }
 
 -- ---- places past a position
-
-pub later_line : (position : Position) (p : Place) → position.line < p.position.line → is_past position p ≡ true
-later_line position p h = rw (lt-ltb position.line p.position.line h) refl
-
-pub later_column : (position : Position) (p : Place) → position.line ≡ p.position.line → position.column < p.position.column → is_past position p ≡ true
-later_column position p e h =
-    rw (le-ltb position.line p.position.line (omega (arith, e)), eq-eqb position.line p.position.line e, lt-ltb position.column p.position.column h) refl
-
-abbrev Past : Position → Place → Type 0
-Past position p = (position.line < p.position.line) ⊎ ((position.line ≡ p.position.line) × (position.column < p.position.column))
-
-past_is : (position : Position) (p : Place) → is_past position p ≡ true → Past position p
-past_is position p h =
-    elim (or_cases (nat_lt position.line p.position.line) (position.line == p.position.line && nat_lt position.column p.position.column) h) [
-      | inl e ↦ inl (ltb-true position.line p.position.line e)
-      | inr e ↦
-          let both = and_parts (position.line == p.position.line) (nat_lt position.column p.position.column) e in
-          inr (eqb-true position.line p.position.line both.0, ltb-true position.column p.position.column both.1)
-    ]
 
 apart : (b : Bool) → b ≡ true → b ≡ false → ⊥
 apart b t f = cc
 
 line_up_to : (position : Position) (p : Place) → is_past position p ≡ false → p.position.line ≤ position.line
-line_up_to position p h =
-    elim (cases_lt position.line p.position.line) [ inl lt ↦ absurd (apart (is_past position p) (later_line position p lt) h) | inr le ↦ le ]
+line_up_to position p h = grind (arith, nat_tests)
 
 column_up_to : (position : Position) (p : Place) → is_past position p ≡ false → position.line ≡ p.position.line → p.position.column ≤ position.column
-column_up_to position p h e =
-    elim (cases_lt position.column p.position.column) [ inl lt ↦ absurd (apart (is_past position p) (later_column position p e lt) h) | inr le ↦ le ]
+column_up_to position p h e = grind (arith, nat_tests)
 
 byte_past : (encoding : Encoding) (position : Position) (p : Place) (c : ℕ) → is_past position p ≡ true → is_past position (after_byte encoding p c) ≡ true
-byte_past encoding position p c h =
-    let q = after_byte encoding p c in
-    elim (past_is position p h) [
-      | inl lt ↦ later_line position q (omega (arith, lt, line_of_byte encoding p c))
-      | inr both ↦ elim (cases_Bool (c == 10)) [
-        | inl e ↦ later_line position q (omega (arith, both.0, line_of_byte encoding p c, cond-true {A = ℕ} (c == 10) 1 0 e))
-        | inr e ↦
-            let step : q.position.column ≡ p.position.column + byte_units encoding c = rw e refl in
-            later_column position q (omega (arith, both.0, line_of_byte encoding p c, cond-false {A = ℕ} (c == 10) 1 0 e)) (omega (arith, both.1, step))
-      ]
-    ]
+byte_past encoding position p c h = grind (arith, nat_tests)
 
 -- what follows a place past the position is past it
 pub past_grows : (encoding : Encoding) (position : Position) (p : Place) (text : List ℕ) → is_past position p ≡ true → is_past position (place_after encoding p text) ≡ true
@@ -165,24 +126,21 @@ module _ (encoding : Encoding) (text : List ℕ) (position : Position) (count : 
   -- no later place has the position's line and a column that isn't greater
   not_later : (other : ℕ) → IsCharBoundary text other → line_at text other ≤ position.line → (line_at text other ≡ position.line → column_at encoding text other ≤ position.column)
       → count < other → ⊥
-  not_later other bound le col lt =
-      elim (past_is position (place other) (h.last other bound lt)) [
-        | inl later ↦ omega (arith, later, line_of other, le)
-        | inr both ↦ let e : line_at text other ≡ position.line = omega (arith, both.0, line_of other) in omega (arith, both.1, column_of other, col e)
-      ]
+  not_later other bound le col lt = grind (arith, nat_tests, h.last other bound lt, line_of other, column_of other, le, col)
 
   in_its_line : position.line ≤ feeds text → line_at text count ≡ position.line
   in_its_line some =
-      elim (cases_lt (line_at text count) position.line) [
-        | inr ge ↦ omega (arith, ge, line_up_to position (place count) h.up_to, line_of count)
-        | inl lt ↦
-            let found = start_of text u (length text) position.line (omega arith) (omega (arith, some, all_lines)) in
-            let at = found.0 in
-            let start = found.1 in
-            let later : count < at = elim (cases_lt count at) [ inl l ↦ l | inr ge ↦ absurd (omega (arith, lines_grow text at count ge, start.line_is, lt)) ] in
-            let none : column_at encoding text at ≡ 0 = omega (arith, column_from encoding text position.line at at start (omega arith) start.boundary.0 start.line_is) in
-            absurd (not_later at start.boundary (omega (arith, start.line_is)) (λ _. omega (arith, none)) later)
-      ]
+      let (at, start) = start_of text u (length text) position.line (omega arith) (omega (arith, some, all_lines)) in
+      grind (
+        arith,
+        line_up_to position (place count) h.up_to,
+        line_of count,
+        lines_grow text at count,
+        start.line_is,
+        start.boundary.0,
+        column_from encoding text position.line at at start,
+        not_later at start.boundary,
+      )
 
   pub offset_found : IsOffset encoding text position count
   offset_found = record {
@@ -204,31 +162,15 @@ module _ (encoding : Encoding) (text : List ℕ) (position : Position) (count : 
 -- ---- the numbers of places
 
 byte_in_text : (encoding : Encoding) (p : Place) (c : ℕ) → byte_units encoding c ≤ 2 → IsInText p → IsInText (after_byte encoding p c)
-byte_in_text encoding p c two h =
-    elim (cases_Bool (c == 10)) [
-      | inl e ↦ record { line = rw e (omega (arith, h.line)); column = rw e (omega arith) }
-      | inr e ↦ record { line = rw e (omega (arith, h.line)); column = rw e (omega (arith, h.column, two)) }
-    ]
-
-units_two : (encoding : Encoding) (c : ℕ) → byte_units encoding c ≤ 2
-units_two Utf8 c = omega arith
-units_two Utf16 c =
-    elim (cases_lt c 128) [
-      | inl low ↦ rw (lt-ltb c 128 low) (omega arith)
-      | inr high ↦ rw (le-ltb c 128 high)
-          (elim (cases_lt c 192) [
-            | inl lt ↦ rw (lt-ltb c 192 lt) (omega arith)
-            | inr le ↦ rw (le-ltb c 192 le) (elim (cases_lt c 240) [ inl less ↦ rw (lt-ltb c 240 less) (omega arith) | inr more ↦ rw (le-ltb c 240 more) (omega arith) ])
-          ])
-    ]
+byte_in_text encoding p c two h = let l = h.line in let k = h.column in record { line = grind (arith, nat_tests); column = grind (arith, nat_tests) }
 
 pub next_in_text : (encoding : Encoding) (p next : Place) (c : ℕ) → IsInText p → next ≡ after_byte encoding p c → IsInText next
-next_in_text encoding p next c h e = subst IsInText (sym e) (byte_in_text encoding p c (units_two encoding c) h)
+next_in_text encoding p next c h e = subst IsInText (sym e) (byte_in_text encoding p c (units_bound encoding c) h)
 
 -- all places of texts that begin at one in a text
 pub all_in_text : (encoding : Encoding) (p : Place) (text : List ℕ) → IsInText p → IsInText (place_after encoding p text)
 all_in_text encoding p [] h = h
-all_in_text encoding p (c ∷ text) h = all_in_text encoding (after_byte encoding p c) text (byte_in_text encoding p c (units_two encoding c) h)
+all_in_text encoding p (c ∷ text) h = all_in_text encoding (after_byte encoding p c) text (byte_in_text encoding p c (units_bound encoding c) h)
 
 pub first_in_text : IsInText first_place
 first_in_text = record { line = omega arith; column = omega arith }
@@ -277,13 +219,18 @@ module _ (encoding : Encoding) (p last : Place) (text : List ℕ) (position : Po
     ];
   }
 
+  -- the text ends there
+  pub ended : length text ≤ at → IsUpTo encoding p text position count
+  ended all = record {
+    boundary = boundary;
+    up_to = not_past;
+    last = λ other bound lt. absurd (omega (arith, latest other bound (omega (arith, bound.0, all)), lt));
+  }
+
 -- ---- sizes of texts
 
 same_place : (p q : Place) → p.offset ≡ q.offset → p.position.line ≡ q.position.line → p.position.column ≡ q.position.column → p ≡ q
-same_place p q e f g =
-    ap (λ (n : ℕ). record { offset = n; position = p.position }) e
-    ∙ ap (λ (n : ℕ). record { offset = q.offset; position = record { line = n; column = p.position.column } }) f
-    ∙ ap (λ (n : ℕ). record { offset = q.offset; position = record { line = q.position.line; column = n } }) g
+same_place p q e f g = λ i. record { offset = e i; position = record { line = f i; column = g i } }
 
 size_line : (encoding : Encoding) (text : List ℕ) → (place_after encoding first_place text).position.line ≡ feeds text
 size_line encoding text = omega (arith, line_is encoding first_place text)
@@ -292,21 +239,15 @@ size_line encoding text = omega (arith, line_is encoding first_place text)
 column_by_size : (encoding : Encoding) (p : Place) (text : List ℕ)
     → (place_after encoding p text).position.column ≡ (after_size p (place_after encoding first_place text)).position.column
 column_by_size encoding p text =
-    let size = place_after encoding first_place text in
-    elim (cases_lt 0 (feeds text)) [
-      | inl some ↦
-          let other : (size.position.line == 0) ≡ false = ne_eqb size.position.line 0 (λ e. omega (arith, some, e, size_line encoding text)) in
-          column_after_feed encoding p text some
-          ∙ sym (column_after_feed encoding first_place text some)
-          ∙ sym (cond-false (size.position.line == 0) (p.position.column + size.position.column) size.position.column other)
-      | inr none ↦
-          let zero : feeds text ≡ 0 = omega (arith, none) in
-          let same : (size.position.line == 0) ≡ true = eq-eqb size.position.line 0 (omega (arith, zero, size_line encoding text)) in
-          let sum : (place_after encoding p text).position.column ≡ p.position.column + size.position.column =
-          omega (arith, column_grows encoding p text zero, column_grows encoding first_place text zero)
-          in
-          sum ∙ sym (cond-true (size.position.line == 0) (p.position.column + size.position.column) size.position.column same)
-    ]
+    grind (
+      arith,
+      nat_tests,
+      column_after_feed encoding p text,
+      column_after_feed encoding first_place text,
+      column_grows encoding p text,
+      column_grows encoding first_place text,
+      size_line encoding text,
+    )
 
 pub after_its_size : (encoding : Encoding) (p : Place) (text : List ℕ) → after_size p (place_after encoding first_place text) ≡ place_after encoding p text
 after_its_size encoding p text =
@@ -317,22 +258,54 @@ after_its_size encoding p text =
 column_between : (encoding : Encoding) (p : Place) (text : List ℕ)
     → (size_between p (place_after encoding p text)).position.column ≡ (place_after encoding first_place text).position.column
 column_between encoding p text =
-    let end = place_after encoding p text in
-    let size = place_after encoding first_place text in
-    elim (cases_lt 0 (feeds text)) [
-      | inl some ↦
-          let other : (end.position.line == p.position.line) ≡ false = ne_eqb end.position.line p.position.line (λ e. omega (arith, some, e, line_is encoding p text)) in
-          cond-false (end.position.line == p.position.line) (end.position.column - p.position.column) end.position.column other
-          ∙ column_after_feed encoding p text some
-          ∙ sym (column_after_feed encoding first_place text some)
-      | inr none ↦
-          let zero : feeds text ≡ 0 = omega (arith, none) in
-          let same : (end.position.line == p.position.line) ≡ true = eq-eqb end.position.line p.position.line (omega (arith, zero, line_is encoding p text)) in
-          let rest : end.position.column - p.position.column ≡ size.position.column = omega (arith, column_grows encoding p text zero, column_grows encoding first_place text zero) in
-          cond-true (end.position.line == p.position.line) (end.position.column - p.position.column) end.position.column same ∙ rest
-    ]
+    grind (
+      arith,
+      nat_tests,
+      column_after_feed encoding p text,
+      column_after_feed encoding first_place text,
+      column_grows encoding p text,
+      column_grows encoding first_place text,
+      line_is encoding p text,
+    )
 
 pub size_is : (encoding : Encoding) (p : Place) (text : List ℕ) → size_between p (place_after encoding p text) ≡ place_after encoding first_place text
 size_is encoding p text =
     same_place (size_between p (place_after encoding p text)) (place_after encoding first_place text) (omega (arith, offset_is encoding p text, offset_is encoding first_place text))
     (omega (arith, line_is encoding p text, size_line encoding text)) (column_between encoding p text)
+
+-- ---- from line to line
+
+-- The place after the first line feed that follows a place of a text: where the next line begins.
+module _ (encoding : Encoding) (p here : Place) (text : List ℕ) (at n : ℕ) (is : here ≡ place_after encoding p (take at text)) (first : NoneBefore (Passes (is_byte 10) (rest_from text at)) 0 (length (rest_from text at)) n)
+    (feed : Passes (is_byte 10) (rest_from text at) n) where
+  abbrev line : List ℕ
+  line = take n (rest_from text at) ++ 10 ∷ []
+
+  one_feed : feeds line ≡ 1
+  one_feed =
+      let f : ℕ → ℕ = λ (c : ℕ). cond (c == 10) 1 0 in
+      omega (arith, sum_by-append f (take n (rest_from text at)) (10 ∷ []), sum_by-cons f 10 [], no_feeds (rest_from text at) n (omega (arith, first.high)) first.before)
+
+  cut_line : take (at + (n + 1)) text ≡ take at text ++ line
+  cut_line =
+      let rest = rest_from text at in
+      let front = take (at + (n + 1)) text in
+      sym (take-append-drop at front)
+      ∙ (λ i. take-take at (at + (n + 1)) text (omega arith) i ++ drop-take at (n + 1) text i)
+      ∙ ap (λ (l : List ℕ). take at text ++ take (n + 1) l) (sym (rest_is text at))
+      ∙ ap (λ (l : List ℕ). take at text ++ l) (take_more rest n 0 first.high ∙ ap (λ (c : ℕ). take n rest ++ c ∷ []) (eqb-true _ 10 feed))
+
+  pub next_line : (record { offset = here.offset + (n + 1); position = record { line = here.position.line + 1; column = 0 } }) ≡ place_after encoding p (take (at + (n + 1)) text)
+  next_line =
+      let there = place_after encoding here line in
+      let whole : there ≡ place_after encoding p (take (at + (n + 1)) text) =
+      ap (λ (q : Place). place_after encoding q line) is ∙ sym (place-append encoding p (take at text) line) ∙ ap (place_after encoding p) (sym cut_line)
+      in
+      let along : here.offset + (n + 1) ≡ there.offset = omega (arith, offset_is encoding here line, length-append (take n (rest_from text at)) (10 ∷ []), length-take-le n (rest_from text at) (omega (arith, first.high))) in
+      let down : here.position.line + 1 ≡ there.position.line = omega (arith, line_is encoding here line, one_feed) in
+      let column : 0 ≡ there.position.column = sym (column_after_feed encoding here line (omega (arith, one_feed)) ∙ ap (width encoding) (last_after (take n (rest_from text at)) [])) in
+      (λ i. record { offset = along i; position = record { line = down i; column = column i } }) ∙ whole
+
+-- before a position no place at the beginning of its line, or of an earlier one, is past it
+pub not_past_before : (position : Position) (from p : Place) → is_past position from ≡ false → IsBefore from position.line p → is_past position p ≡ false
+not_past_before position from p h before = grind (arith, nat_tests, before, h)

@@ -2,13 +2,20 @@
 use Rattle.std.proofs.Common.{◌≡◌, ◌==◌, ℕ, zero, suc, ◌+◌, ◌-◌, ◌<◌, ◌≤◌, List, [], ◌∷◌, ◌++◌, length, take, drop, get_or, cond, refl, sym, ap, subst, ◌∙◌, arith, add-one}
 use Rattle.std.specs.List.{sum_by}
 use Rattle.std.proofs.lemmas.Bool.{cond-true, cond-false, eq-eqb, le-ltb, lt-ltb}
+use Rattle.std.proofs.lemmas.Bool.Decides.{nat_tests}
 use Rattle.std.proofs.lemmas.List.{drop_more, get_or-take, length-take-le, take-append-drop, take-take}
 use Rattle.std.specs.Str.{IsUtf8}
 use Rattle.std.proofs.lemmas.Str.{IsCharBoundary-after_ascii, IsCharBoundary-start}
 use Rattle.std.proofs.lemmas.List.Sums.{count_by_more_yes, sum_by-append, sum_by-cons, sum_by-take-drop, sum_by-take-le}
 use Rattle.justfile_lines.specs.declared.encoding.Encoding.{Encoding}
+use Rattle.justfile_lines.specs.declared.encoding.Encoding.TheVariants.{Utf8, Utf16}
 use Rattle.justfile_lines.specs.Positions.{byte_units, column_at, feeds, last_line, line_at, width}
 use Rattle.justfile_lines.specs.Starts.{IsStart}
+
+-- a byte counts for two units at most
+pub units_bound : (encoding : Encoding) (byte : ℕ) → byte_units encoding byte ≤ 2
+units_bound Utf8 byte = omega arith
+units_bound Utf16 byte = grind (arith, nat_tests)
 
 -- more of a text has no smaller sum
 pub sum_grows : (f : ℕ → ℕ) (text : List ℕ) (i j : ℕ) → i ≤ j → sum_by f (take i text) ≤ sum_by f (take j text)
@@ -48,15 +55,18 @@ pub without_feeds : (text : List ℕ) → feeds text ≡ 0 → last_line text �
 without_feeds [] e = refl
 without_feeds (c ∷ text) e = cond-false _ (last_line text) (c ∷ text) (le-ltb 0 (feeds (c ∷ text)) (omega arith))
 
-after_feed : (before text : List ℕ) → feeds text ≡ 0 → last_line (before ++ 10 ∷ text) ≡ text
-after_feed [] text e =
-    cond-true _ (last_line text) (10 ∷ text) (lt-ltb 0 (feeds (10 ∷ text)) (omega (arith, sum_by-cons (λ (c : ℕ). cond (c == 10) 1 0) 10 text))) ∙ without_feeds text e
-after_feed (c ∷ before) text e =
+-- the last line is that of what follows a line feed
+pub last_after : (before text : List ℕ) → last_line (before ++ 10 ∷ text) ≡ last_line text
+last_after [] text = cond-true _ (last_line text) (10 ∷ text) (lt-ltb 0 (feeds (10 ∷ text)) (omega (arith, sum_by-cons (λ (c : ℕ). cond (c == 10) 1 0) 10 text)))
+last_after (c ∷ before) text =
     let f : ℕ → ℕ = λ (c : ℕ). cond (c == 10) 1 0 in
     let all = before ++ 10 ∷ text in
     cond-true _ (last_line all) (c ∷ all)
     (lt-ltb 0 (feeds (c ∷ all)) (omega (arith, sum_by-cons f c all, sum_by-append f before (10 ∷ text), sum_by-cons f 10 text)))
-    ∙ after_feed before text e
+    ∙ last_after before text
+
+after_feed : (before text : List ℕ) → feeds text ≡ 0 → last_line (before ++ 10 ∷ text) ≡ text
+after_feed before text e = last_after before text ∙ without_feeds text e
 
 -- what is between the beginning of a line and an offset in it
 line_from : (text : List ℕ) (line at offset : ℕ) → IsStart text line at → at ≤ offset → offset ≤ length text → line_at text offset ≡ line

@@ -1,34 +1,16 @@
 -- Places that follow a known place in its line.
-use Rattle.std.proofs.Common.{◌≡◌, ℕ, ◌+◌, ◌*◌, ◌-◌, ◌≤◌, List, [], ◌∷◌, length, take, drop, get_or, refl, ap, arith, inl, inr}
+use Rattle.std.proofs.Common.{◌≡◌, ℕ, ◌+◌, ◌*◌, ◌-◌, ◌≤◌, List, [], ◌∷◌, length, take, drop, get_or, refl, ap, arith}
 use Rattle.std.specs.Str.{IsCharBoundary}
-use Rattle.std.proofs.lemmas.Bool.{cases_lt, le-ltb, lt-ltb}
 use Rattle.std.proofs.lemmas.List.{length-take-le, take-take}
 use Rattle.std.proofs.lemmas.List.Sums.{sum_by-cons, sum_by-take-drop}
 use Rattle.justfile_lines.specs.declared.encoding.Encoding.{Encoding}
-use Rattle.justfile_lines.specs.declared.encoding.Encoding.TheVariants.{Utf8, Utf16}
-use Rattle.justfile_lines.specs.Positions.{IsLastUpTo, byte_units, column_at, line_at, utf16_units, width}
+use Rattle.justfile_lines.specs.Positions.{IsLastUpTo, byte_units, column_at, line_at, width}
 use Rattle.justfile_lines.specs.Starts.{AreStarts, IsStart}
-use Rattle.justfile_lines.proofs.Columns.{column_from, line_at-le, lines_grow}
+use Rattle.justfile_lines.proofs.Columns.{column_from, line_at-le, lines_grow, units_bound}
 use Rattle.justfile_lines.proofs.Searches.{start_first}
 use Rattle.justfile_lines.proofs.Walks.{is_last}
 
 -- ---- a width is at most twice the number of bytes
-
-units_of_bound : (byte : ℕ) → utf16_units byte ≤ 2
-units_of_bound byte =
-    elim (cases_lt byte 128) [
-      | inl low ↦ rw (lt-ltb byte 128 low) (omega arith)
-      | inr high ↦ rw (le-ltb byte 128 high)
-          (elim (cases_lt byte 192) [
-            | inl lt ↦ rw (lt-ltb byte 192 lt) (omega arith)
-            | inr le ↦ rw (le-ltb byte 192 le)
-                (elim (cases_lt byte 240) [ inl lt ↦ rw (lt-ltb byte 240 lt) (omega arith) | inr le' ↦ rw (le-ltb byte 240 le') (omega arith) ])
-          ])
-    ]
-
-units_bound : (encoding : Encoding) (byte : ℕ) → byte_units encoding byte ≤ 2
-units_bound Utf8 byte = omega arith
-units_bound Utf16 byte = units_of_bound byte
 
 width_bound : (encoding : Encoding) (text : List ℕ) → width encoding text ≤ 2 * length text
 width_bound encoding [] = omega arith

@@ -1,13 +1,13 @@
 -- Which line an offset is in.
-use Rattle.std.proofs.Common.{◌≡◌, ◌==◌, ℕ, ◌+◌, ◌-◌, ◌<◌, ◌≤◌, List, [], ◌∷◌, ◌++◌, length, take, drop, get_or, zero, suc, sym, ap, subst, ◌∙◌, arith, inl, inr}
+use Rattle.std.proofs.Common.{◌≡◌, ◌==◌, ℕ, ◌+◌, ◌-◌, ◌<◌, ◌≤◌, List, [], ◌∷◌, ◌++◌, length, take, drop, get_or, zero, suc, cond, refl, sym, ap, subst, ◌∙◌, arith, inl, inr}
 use Rattle.std.specs.Str.{IsUtf8}
 use Rattle.memchr.specs.Find.{NoneBefore, Nowhere, Passes, is_byte}
 use Rattle.std.proofs.lemmas.Bool.{cases_lt, eq-eqb, eqb-true, ne_eqb}
-use Rattle.std.proofs.lemmas.List.{get_or-drop, get_or_append_left, get_or_default, get_or_push, length-drop, length_push, take_all}
-use Rattle.std.proofs.lemmas.List.Sums.{count_by_more_no}
-use Rattle.justfile_lines.specs.Positions.{feeds, line_at}
+use Rattle.std.proofs.lemmas.List.{get_or-drop, get_or_append_left, get_or_default, get_or_push, drop_more, length-drop, length_push, take-append-drop, take_all}
+use Rattle.std.proofs.lemmas.List.Sums.{count_by_more_no, sum_by-append, sum_by-cons}
+use Rattle.justfile_lines.specs.Positions.{feeds, last_line, line_at}
 use Rattle.justfile_lines.specs.Starts.{AreStarts, IsStart}
-use Rattle.justfile_lines.proofs.Columns.{line_at-le, line_before, lines_grow, start_after}
+use Rattle.justfile_lines.proofs.Columns.{last_after, line_at-le, line_before, lines_grow, start_after}
 
 -- an offset before the beginning of a line is in an earlier one
 pub line_below : (text : List ℕ) (line at offset : ℕ) → IsStart text line at → offset < at → line_at text offset < line
@@ -20,8 +20,7 @@ line_from_start text line at offset h le = omega (arith, h.line_is, lines_grow t
 
 -- an offset of a line isn't before the beginning of the line
 pub start_first : (text : List ℕ) (line at offset : ℕ) → IsStart text line at → line_at text offset ≡ line → at ≤ offset
-start_first text line at offset h e =
-    elim (cases_lt offset at) [ inl lt ↦ absurd (omega (arith, line_below text line at offset h lt)) | inr le ↦ le ]
+start_first text line at offset h e = grind (arith, line_below text line at offset h)
 
 -- the beginning of a line that was read
 pub start_read : (text starts : List ℕ) (line at : ℕ) → AreStarts text starts → line < length starts → at ≡ get_or starts line at → IsStart text line at
@@ -42,8 +41,7 @@ found_last text starts line offset are last from =
 -- ---- the end of a line
 
 pub before_next : (text : List ℕ) (line at offset : ℕ) → IsStart text (line + 1) at → line_at text offset ≡ line → offset ≤ at - 1
-before_next text line at offset h e =
-    elim (cases_lt offset at) [ inl lt ↦ omega arith | inr le ↦ absurd (omega (arith, line_from_start text (line + 1) at offset h le)) ]
+before_next text line at offset h e = grind (arith, line_from_start text (line + 1) at offset h)
 
 pub up_to_next : (text : List ℕ) (line at offset : ℕ) → IsStart text (line + 1) at → offset ≤ at - 1 → line_at text offset ≤ line
 up_to_next text line zero offset h le = let e : 0 ≡ line + 1 = h.line_is in absurd (omega arith)
@@ -52,16 +50,16 @@ up_to_next text line (suc i) offset h le = omega (arith, line_below text (line +
 -- ---- lines that are found one after the other
 
 -- what a text has from an offset on
-abbrev rest_from : (text : List ℕ) (at : ℕ) → List ℕ
+abbrev pub rest_from : (text : List ℕ) (at : ℕ) → List ℕ
 rest_from text at = take (length text - at) (drop at text)
 
-rest_is : (text : List ℕ) (at : ℕ) → rest_from text at ≡ drop at text
+pub rest_is : (text : List ℕ) (at : ℕ) → rest_from text at ≡ drop at text
 rest_is text at = take_all (length text - at) (drop at text) (omega (arith, length-drop at text))
 
-rest_at : (text : List ℕ) (at k : ℕ) → get_or (rest_from text at) k 0 ≡ get_or text (at + k) 0
+pub rest_at : (text : List ℕ) (at k : ℕ) → get_or (rest_from text at) k 0 ≡ get_or text (at + k) 0
 rest_at text at k = ap (λ (l : List ℕ). get_or l k 0) (rest_is text at) ∙ get_or-drop at text k 0
 
-rest_length : (text : List ℕ) (at : ℕ) → length (rest_from text at) ≡ length text - at
+pub rest_length : (text : List ℕ) (at : ℕ) → length (rest_from text at) ≡ length text - at
 rest_length text at = ap length (rest_is text at) ∙ length-drop at text
 
 -- a text whose lines were found up to an offset, where a line begins
@@ -114,3 +112,41 @@ module _ (text starts : List ℕ) (at : ℕ) (within : at ≤ length text) (coun
               let f : get_or next line 0 ≡ at + (n + 1) = ap (λ (l : List ℕ). get_or l line 0) is ∙ get_or_push starts (at + (n + 1)) 0 line (omega arith) in
               subst (IsStart text line) (sym f) (subst (λ (other : ℕ). IsStart text other (at + (n + 1))) (sym e) start)
         ]
+
+-- ---- the last line
+
+pub no_feeds : (text : List ℕ) (n : ℕ) → n ≤ length text → Nowhere (Passes (is_byte 10) text) 0 n → feeds (take n text) ≡ 0
+no_feeds text zero h none = refl
+no_feeds text (suc n) h none =
+    let lt : n < length text = omega arith in
+    let other : get_or text n 0 ≡ 10 → ⊥ = λ e. none n (omega arith) (omega arith) (eq-eqb _ 10 e) in
+    let more : suc n ≡ n + 1 = omega arith in
+    ap (λ (m : ℕ). feeds (take m text)) more
+    ∙ count_by_more_no (λ c. c == 10) text n 0 lt (ne_eqb _ 10 other)
+    ∙ no_feeds text n (omega arith) (λ k low short. none k low (omega arith))
+
+-- a text without a line feed is its last line
+pub only_line : (text : List ℕ) → Nowhere (Passes (is_byte 10) text) 0 (length text) → feeds text ≡ 0
+only_line text none = ap feeds (sym (take_all (length text) text (omega arith))) ∙ no_feeds text (length text) (omega arith) none
+
+-- what follows the first line feed of a text has one line feed less, and the same last line
+module _ (text : List ℕ) (n : ℕ) (first : NoneBefore (Passes (is_byte 10) text) 0 (length text) n) (feed : Passes (is_byte 10) text n) where
+  cut : text ≡ take n text ++ 10 ∷ drop (n + 1) text
+  cut =
+      sym (take-append-drop n text)
+      ∙ ap (λ (l : List ℕ). take n text ++ l) (drop_more text n 0 first.high ∙ ap (λ (c : ℕ). c ∷ drop (n + 1) text) (eqb-true _ 10 feed))
+
+  pub feeds_past : feeds text ≡ 1 + feeds (rest_from text (n + 1))
+  feeds_past =
+      let f : ℕ → ℕ = λ (c : ℕ). cond (c == 10) 1 0 in
+      omega (
+        arith,
+        ap feeds cut,
+        sum_by-append f (take n text) (10 ∷ drop (n + 1) text),
+        sum_by-cons f 10 (drop (n + 1) text),
+        no_feeds text n (omega (arith, first.high)) first.before,
+        ap feeds (rest_is text (n + 1)),
+      )
+
+  pub last_past : last_line text ≡ last_line (rest_from text (n + 1))
+  last_past = ap last_line cut ∙ last_after (take n text) (drop (n + 1) text) ∙ ap last_line (sym (rest_is text (n + 1)))

@@ -1,7 +1,8 @@
 -- Units along a line.
 use Rattle.std.proofs.Common.{◌≡◌, ℕ, ◌+◌, ◌<◌, ◌≤◌, List, length, take, get_or, refl, sym, subst, arith, inl, inr}
 use Rattle.std.specs.Str.{IsCharBoundary}
-use Rattle.std.proofs.lemmas.Bool.{cases_lt, le-ltb, lt-ltb}
+use Rattle.std.proofs.lemmas.Bool.{cases_lt}
+use Rattle.std.proofs.lemmas.Bool.Decides.{nat_tests}
 use Rattle.std.proofs.lemmas.List.Sums.{sum_by_more}
 use Rattle.justfile_lines.specs.declared.encoding.Encoding.{Encoding}
 use Rattle.justfile_lines.specs.declared.encoding.Encoding.TheVariants.{Utf8, Utf16}
@@ -19,12 +20,7 @@ width_grows encoding text i j h = sum_grows (byte_units encoding) text i j h
 -- the first byte of a character counts
 counts : (encoding : Encoding) (byte : ℕ) → (128 ≤ byte → 192 ≤ byte) → 1 ≤ byte_units encoding byte
 counts Utf8 byte h = omega arith
-counts Utf16 byte h =
-    elim (cases_lt byte 128) [
-      | inl low ↦ rw (lt-ltb byte 128 low) (omega arith)
-      | inr high ↦ rw (le-ltb byte 128 high, le-ltb byte 192 (h high))
-          (elim (cases_lt byte 240) [ inl lt ↦ rw (lt-ltb byte 240 lt) (omega arith) | inr le ↦ rw (le-ltb byte 240 le) (omega arith) ])
-    ]
+counts Utf16 byte h = grind (arith, nat_tests)
 
 -- more characters have more units
 pub wider : (encoding : Encoding) (text : List ℕ) (i j : ℕ) → IsCharBoundary text i → i < j → j ≤ length text → width encoding (take i text) < width encoding (take j text)
@@ -37,10 +33,7 @@ pub stays : (encoding : Encoding) (text : List ℕ) (start at units column last 
     → width encoding (take start text) + units ≡ width encoding (take at text) → at < length text → column < units + more → more ≡ byte_units encoding (get_or text at 0)
     → (other : ℕ) → IsCharBoundary text other → width encoding (take other text) ≤ width encoding (take start text) + column → other ≤ last
 stays encoding text start at units column last more latest is lt over e other bound le =
-    elim (cases_lt at other) [
-      | inl gt ↦ absurd (omega (arith, width_more encoding text at lt, width_grows encoding text (at + 1) other (omega arith)))
-      | inr before ↦ latest other bound before
-    ]
+    grind (arith, width_more encoding text at lt, width_grows encoding text (at + 1) other, latest other bound)
 
 -- the offset that was found in a line is the last one up to the column
 module _ (encoding : Encoding) (text : List ℕ) (line column at end offset : ℕ) (start : IsStart text line at)
@@ -59,18 +52,18 @@ module _ (encoding : Encoding) (text : List ℕ) (line column at end offset : �
 pub found_again : (encoding : Encoding) (text : List ℕ) (line column offset at : ℕ) → IsStart text line at → IsLastUpTo encoding text line column offset → offset ≤ length text
     → (other : ℕ) → IsCharBoundary text other → line_at text other ≡ line → column_at encoding text other ≡ column → offset ≡ other
 found_again encoding text line column offset at start h within other bound e f =
-    let le : other ≤ offset = h.last other bound e (omega arith) in
-    elim (cases_lt other offset) [
-      | inl lt ↦ absurd
-          (omega (
-            arith,
-            wider encoding text other offset bound lt within,
-            h.column_is,
-            column_from encoding text line at offset start (start_first text line at offset start h.line_is) within h.line_is,
-            column_from encoding text line at other start (start_first text line at other start e) bound.0 e,
-          ))
-      | inr ge ↦ omega arith
-    ]
+    grind (
+      arith,
+      h.last other bound e,
+      h.column_is,
+      h.line_is,
+      bound.0,
+      wider encoding text other offset bound,
+      start_first text line at offset start h.line_is,
+      start_first text line at other start e,
+      column_from encoding text line at offset start,
+      column_from encoding text line at other start,
+    )
 
 -- an offset in a character isn't before the first one after it
 pub last_of_itself : (encoding : Encoding) (text : List ℕ) (offset at : ℕ) → IsStart text (line_at text offset) at → IsCharBoundary text offset

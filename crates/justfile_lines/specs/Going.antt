@@ -1,5 +1,5 @@
 -- Going along a text, from a place on.
-use Rattle.std.specs.Prelude.{◌≡◌, ◌<◌, ◌≤◌, ◌+◌, ◌-◌, ◌*◌, ◌==◌, ◌||◌, ◌&&◌, ℕ, Bool, true, false, List, [], ◌∷◌, take, nat_lt, if◌then◌else◌}
+use Rattle.std.specs.Prelude.{◌≡◌, ◌⊎◌, ◌<◌, ◌≤◌, ◌+◌, ◌-◌, ◌*◌, ◌==◌, ◌||◌, ◌&&◌, ℕ, Bool, true, false, List, [], ◌∷◌, take, nat_lt, if◌then◌else◌}
 use Rattle.std.specs.Str.{IsCharBoundary}
 use Rattle.justfile_lines.specs.declared.encoding.Encoding.{Encoding}
 use Rattle.justfile_lines.specs.declared.position.Place.{Place}
@@ -30,6 +30,10 @@ pub record IsUpTo (encoding : Encoding) (from : Place) (text : List ℕ) (positi
   pub boundary : IsCharBoundary text count
   pub up_to : is_past position (place_after encoding from (take count text)) ≡ false
   pub last : (other : ℕ) → IsCharBoundary text other → count < other → is_past position (place_after encoding from (take other text)) ≡ true
+
+-- A place is the one that a text begins at, or the beginning of a line that isn't after the one with this number.
+abbrev pub IsBefore : (from : Place) (line : ℕ) → Place → Type 0
+IsBefore from line p = (p ≡ from) ⊎ ((p.position.line ≤ line) × (p.position.column ≡ 0))
 
 -- the length of the longest text
 abbrev pub longest : ℕ

@@ -1,9 +1,13 @@
 //! Going along a text, from a place on.
-ghost use Rattle.std.specs.Prelude.{◌≡◌, ◌+◌, ◌<◌, ◌≤◌, ℕ, false, length, take};
-ghost use Rattle.justfile_lines.specs.Going.{IsInText, IsUpTo, after_byte, after_size, first_place, is_past, longest, place_after, size_between};
+ghost use Rattle.std.specs.Prelude.{◌≡◌, ◌+◌, ◌<◌, ◌≤◌, ◌-◌, ℕ, false, length, take};
+ghost use Rattle.std.specs.Str.{IsCharBoundary, IsUtf8};
+ghost use Rattle.justfile_lines.specs.declared.encoding.Encoding.{Encoding};
+ghost use Rattle.justfile_lines.specs.Going.{IsBefore, IsInText, IsUpTo, after_byte, after_size, first_place, is_past, longest, place_after, size_between};
 
 use crate::encoding::Encoding;
 use crate::position::{Place, Position};
+use crate::walk::{last_line, width};
+use memchr::memchr;
 
 impl Place {
     /// Whether the place is in a later line than a position, or at a greater column of its line.
@@ -40,11 +44,14 @@ impl Place {
         requires { length text.now ≤ longest }
         ensures { result ≡ place_after encoding first_place text.now }
     {
-        let mut here = Place::start();
-        for byte in text.as_bytes() {
-            here = here.after_byte(encoding, *byte);
+        let (line, last) = last_line(text.as_bytes());
+        Place {
+            offset: text.len(),
+            position: Position {
+                line,
+                column: width(encoding, last),
+            },
         }
-        here
     }
 
     /// Returns the place after a text with a size that begins at this one.
@@ -82,6 +89,35 @@ impl Place {
         }
     }
 
+    /// Returns the beginning of the line with this number in a text that begins at this place, or of its
+    /// last line if it has fewer: this place itself if it is in that line.
+    fn to_line(self, text: &[u8], line: usize) -> Place
+        requires utf8 { IsUtf8 text.now }
+        requires short { self.offset + length text.now ≤ longest }
+        ensures from { self.offset ≤ result.offset }
+        ensures boundary { IsCharBoundary text.now (result.offset - self.offset) }
+        ensures is { (encoding : Encoding)
+            → result ≡ place_after encoding self (take (result.offset - self.offset) text.now) }
+        ensures before { IsBefore self line result }
+    {
+        let mut here = self;
+        let mut at = 0;
+        'lines: while here.position.line < line {
+            let Some(feed) = memchr(b'\n', &text[at..]) else {
+                return here;
+            };
+            at += feed + 1;
+            here = Place {
+                offset: self.offset + at,
+                position: Position {
+                    line: here.position.line + 1,
+                    column: 0,
+                },
+            };
+        }
+        here
+    }
+
     /// Returns the last place that isn't past a position, in a text that begins at this place, which isn't
     /// past it.
     pub fn up_to(self, encoding: Encoding, text: &str, position: Position) -> Place
@@ -93,10 +129,10 @@ impl Place {
             × (result.offset ≡ self.offset + count) }
     {
         let bytes = text.as_bytes();
-        let mut count = 0;
-        let mut last = self;
-        let mut at = 0;
-        let mut here = self;
+        let mut here = self.to_line(bytes, position.line);
+        let mut last = here;
+        let mut at = here.offset - self.offset;
+        let mut count = at;
         'bytes: while at < bytes.len() {
             here = here.after_byte(encoding, bytes[at]);
             if here.is_past(position) {

@@ -1,9 +1,24 @@
 //! Going along a line up to a column.
 ghost use Rattle.std.specs.Prelude.{◌≡◌, ℕ, ◌+◌, ◌≤◌, length, take};
 ghost use Rattle.std.specs.Str.{IsCharBoundary};
-ghost use Rattle.justfile_lines.specs.Positions.{width};
+ghost use Rattle.justfile_lines.specs.Positions.{feeds, last_line, width};
 
 use crate::encoding::Encoding;
+use memchr::memchr;
+
+/// Returns the number of the last line of a text, from 0, and that line.
+pub(crate) fn last_line(text: &[u8]) -> (usize, &[u8])
+    ensures number { result.0 ≡ feeds text.now }
+    ensures line { result.1.now ≡ last_line text.now }
+{
+    let mut line = 0;
+    let mut rest = text;
+    while let Some(feed) = memchr(b'\n', rest) {
+        line += 1;
+        rest = &rest[feed + 1..];
+    }
+    (line, rest)
+}
 
 /// Returns the width of a text.
 pub(crate) fn width(encoding: Encoding, text: &[u8]) -> usize

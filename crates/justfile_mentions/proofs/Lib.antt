@@ -1,2 +1,3 @@
 pub mod Appended
+pub mod Plain
 pub mod Single

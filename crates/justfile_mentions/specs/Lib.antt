@@ -1,2 +1,4 @@
+pub mod Arguments
 pub mod Mentions
 pub mod Names
+pub mod Noted

@@ -1,5 +1,5 @@
 -- The mentions of names in items.
-use Rattle.std.specs.Prelude.{◌≡◌, ℕ, suc, ◌+◌, ◌&&◌, ◌||◌, Bool, true, false, not, List, [], ◌∷◌, ◌++◌, map, filter, nat_lt, Option, None, Some, IsPermutation, cond, string_bytes}
+use Rattle.std.specs.Prelude.{◌≡◌, ℕ, suc, ◌+◌, ◌&&◌, ◌||◌, Bool, true, false, not, List, [], ◌∷◌, ◌++◌, map, filter, nat_lt, Option, None, Some, IsPermutation, cond}
 use Rattle.std.specs.List.{list_any}
 use Rattle.std.specs.List.Sorted.{IsNonDecreasingBy}
 use Rattle.std.specs.Str.{bytes_eq}
@@ -12,21 +12,11 @@ use Rattle.justfile_references.specs.declared.defaults.Defaults.{Defaults}
 use Rattle.justfile_references.specs.declared.reference.Reference.{Reference}
 use Rattle.justfile_references.specs.declared.reference.Role as references
 use Rattle.justfile_references.specs.declared.reference.Role.TheVariants as named
-use Rattle.editor_language.specs.declared.mention.Mention.{Mention}
 use Rattle.editor_language.specs.declared.mention.Role.{Role}
 use Rattle.editor_language.specs.declared.mention.Role.TheVariants as roles
-use Rattle.editor_language.specs.declared.parts.Span.{Span}
-
--- what is known of a mention
-pub record Noted : Type 0 where
-  pub role : Role
-  pub name : List ℕ
-  pub scope : Option ℕ
-  pub span : Span
-  pub defines : Bool
-
-abbrev pub noted : Mention → Noted
-noted m = record { role = m.role; name = string_bytes m.name; scope = m.scope; span = m.span; defines = m.defines }
+use Rattle.justfile_builtins.specs.Constants.{is_constant}
+use Rattle.justfile_mentions.specs.Arguments.{arguments_of}
+pub use Rattle.justfile_mentions.specs.Noted.{Noted, noted}
 
 abbrev pub is_parameter : references.Role → Bool
 is_parameter named.Function = false
@@ -44,6 +34,10 @@ parameters_among found = map (λ (r : Reference). r.token) (filter defines_param
 
 abbrev pub is_between : (first last token : Token) → Bool
 is_between first last token = nat_lt first.offset token.offset && nat_lt token.offset last.offset
+
+-- What a name stands for that is no parameter's: a constant, if `just` has one of this name, even if the file assigns it too. Which of both a use means depends on when it is evaluated.
+abbrev pub variable_role : (name : List ℕ) → Role
+variable_role name = cond (is_constant name) roles.Constant roles.Variable
 
 module _ (defaults : Defaults) (parameters : List Token) where
   -- Whether a parameter of an item is seen where a name is used in the item. Each is, but in the default of a parameter only those before it are: another parameter is
@@ -63,7 +57,7 @@ module _ (defaults : Defaults) (parameters : List Token) where
   meaning_in named.Function used = roles.Function
   meaning_in named.Parameter used = roles.Parameter
   meaning_in named.Recipe used = roles.Recipe
-  meaning_in named.Variable used = cond (names_parameter used) roles.Parameter roles.Variable
+  meaning_in named.Variable used = cond (names_parameter used) roles.Parameter (variable_role (lexeme_of used))
 
   -- what the name of a reference of an item stands for
   abbrev pub meaning : Reference → Role
@@ -72,6 +66,7 @@ module _ (defaults : Defaults) (parameters : List Token) where
 -- a parameter is known in its item alone, and any other name in all of them
 abbrev pub scope_of : (index : ℕ) → Role → Option ℕ
 scope_of index roles.Parameter = Some index
+scope_of index roles.Constant = None
 scope_of index roles.Function = None
 scope_of index roles.Recipe = None
 scope_of index roles.Variable = None
@@ -87,20 +82,22 @@ to_note index defaults parameters r =
       defines = r.defines;
     }
 
--- these are the references of an item, in the order of the text
-pub record AreReferences (item : Item) (found : List Reference) : Type 0 where
-  pub all : IsPermutation (item_references item) found
-  pub in_order : IsNonDecreasingBy (λ (r : Reference). r.token.offset) found
-
 -- the mentions that references of the item with an index are
 abbrev pub mentions_by : (index : ℕ) → Item → List Reference → List Noted
 mentions_by index item found = map (to_note index (defaults_of item) (parameters_among found)) found
 
--- these are the mentions in the item with an index, in the order of the text
-pub record AreOfItem (index : ℕ) (item : Item) (mentions : List Noted) : Type 0 where
+-- these are the mentions that the references of the item with an index are
+pub record AreByReferences (index : ℕ) (item : Item) (mentions : List Noted) : Type 0 where
   pub found : List Reference
-  pub are_references : AreReferences item found
+  pub are_all : IsPermutation (item_references item) found
   pub are : mentions ≡ mentions_by index item found
+
+-- These are the mentions in the item with an index, in the order of the text: its references, and the parameters that its attributes name.
+pub record AreOfItem (index : ℕ) (item : Item) (mentions : List Noted) : Type 0 where
+  pub by_references : List Noted
+  pub are_by_references : AreByReferences index item by_references
+  pub are_all : IsPermutation (by_references ++ arguments_of index item) mentions
+  pub in_order : IsNonDecreasingBy (λ (n : Noted). n.span.start) mentions
 
 -- the mentions in an item, followed by others
 pub record AreBoth (own others : List Noted → Type 0) (mentions : List Noted) : Type 0 where
@@ -114,9 +111,3 @@ pub record AreBoth (own others : List Noted → Type 0) (mentions : List Noted) 
 abbrev pub AreMentions : (index : ℕ) → List Item → List Noted → Type 0
 AreMentions index [] mentions = mentions ≡ []
 AreMentions index (item ∷ items) mentions = AreBoth (AreOfItem index item) (AreMentions (suc index) items) mentions
-
--- the mentions in the item with an index were appended
-pub record Adds (index : ℕ) (item : Item) (old new : List Mention) : Type 0 where
-  pub added : List Noted
-  pub are : AreOfItem index item added
-  pub is : map noted new ≡ map noted old ++ added

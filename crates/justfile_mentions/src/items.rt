@@ -1,7 +1,9 @@
 //! The mentions of names in items.
-ghost use Rattle.std.specs.Prelude.{◌≡◌, ◌++◌, IfOk, OnOk, map};
-ghost use Rattle.justfile_mentions.specs.Mentions.{Adds, AreMentions, noted, scope_of, to_note};
+ghost use Rattle.std.specs.Prelude.{◌≡◌, IfOk, map};
+ghost use Rattle.justfile_mentions.specs.Mentions.{AreByReferences, AreMentions, AreOfItem, scope_of, to_note};
+ghost use Rattle.justfile_mentions.specs.Noted.{noted};
 
+use crate::arguments::push_arguments;
 use crate::meaning::{meaning, parameters_among};
 use editor_language::{Mention, Role, Span};
 use justfile_item::Item;
@@ -9,8 +11,8 @@ use justfile_references::{Defaults, Reference, references};
 use justfile_token::Token;
 use std::alloc::{AllocError, Global};
 
-/// Returns where names are defined and used in the items of a file, item by item. The scope of a
-/// parameter is the index of its item.
+/// Returns where names are defined and used in the items of a file, item by item. A parameter is
+/// also used where an attribute `arg` names it without escapes; its scope is the index of its item.
 ///
 /// # Errors
 ///
@@ -20,43 +22,50 @@ pub fn mentions(items: &[Item<'_>], alloc: Global) -> Result<Vec<Mention>, Alloc
 {
     let mut mentions = Vec::new(alloc);
     for (index, item) in items.iter().enumerate() {
-        push_item(item, alloc, index, &mut mentions)?;
+        let mut own = mentions_in(item, alloc, index)?;
+        mentions.append(&mut own)?;
     }
     Ok(mentions)
 }
 
-/// Adds the mentions in an item, which has an index.
-#[tactic(auto, using(crate::proofs::Appended::added))]
-fn push_item(
-    item: &Item<'_>,
-    alloc: Global,
-    index: usize,
-    mentions: &mut Vec<Mention>,
-) -> Result<(), AllocError>
-    ensures { OnOk result (Adds index item.now mentions.old.items mentions.new.items) }
+/// Returns the mentions in an item, which has an index, in the order of the text.
+#[tactic(auto, using(crate::proofs::Appended::ordered))]
+fn mentions_in(item: &Item<'_>, alloc: Global, index: usize) -> Result<Vec<Mention>, AllocError>
+    ensures { IfOk result (λ own. AreOfItem index item.now (map noted own.items)) }
+{
+    let mut own = mentions_by(item, alloc, index)?;
+    push_arguments(item, alloc, index, &mut own)?;
+    own.sort_by_key(|mention| mention.span.start)?;
+    Ok(own)
+}
+
+/// Returns the mentions that the references of an item are.
+#[tactic(auto, using(crate::proofs::Appended::referring))]
+fn mentions_by(item: &Item<'_>, alloc: Global, index: usize) -> Result<Vec<Mention>, AllocError>
+    ensures { IfOk result (λ own. AreByReferences index item.now (map noted own.items)) }
 {
     let defaults = Defaults::of(item);
     let found = references(item, alloc)?;
     let parameters = parameters_among(alloc, &found)?;
-    push_references(alloc, index, defaults, &parameters, &found, mentions)
+    mentions_of(alloc, index, defaults, &parameters, &found)
 }
 
-/// Adds the mentions that references of an item with these parameters are.
-fn push_references(
+/// Returns the mentions that references of an item with these parameters are.
+fn mentions_of(
     alloc: Global,
     index: usize,
     defaults: Defaults,
     parameters: &[Token<'_>],
     found: &[Reference<'_>],
-    mentions: &mut Vec<Mention>,
-) -> Result<(), AllocError>
-    ensures { OnOk result (map noted mentions.new.items ≡ map noted mentions.old.items
-        ++ map (to_note index defaults parameters.now) found.now) }
+) -> Result<Vec<Mention>, AllocError>
+    ensures { IfOk result (λ own. map noted own.items
+        ≡ map (to_note index defaults parameters.now) found.now) }
 {
+    let mut mentions = Vec::new(alloc);
     for reference in found {
         mentions.push(mention(alloc, index, defaults, parameters, reference)?)?;
     }
-    Ok(())
+    Ok(mentions)
 }
 
 /// Returns the mention that a reference is.
@@ -91,6 +100,6 @@ fn scope_of(index: usize, role: Role) -> Option<usize>
 {
     match role {
         Role::Parameter => Some(index),
-        Role::Function | Role::Recipe | Role::Variable => None,
+        Role::Constant | Role::Function | Role::Recipe | Role::Variable => None,
     }
 }

@@ -2,6 +2,7 @@
 //! is.
 #![tactic(auto)]
 
+mod arguments;
 mod items;
 mod meaning;
 mod names;

@@ -1,9 +1,10 @@
 //! What names stand for in an item.
 ghost use Rattle.std.specs.Prelude.{◌≡◌, IfOk};
 ghost use Rattle.std.specs.List.{list_any};
-ghost use Rattle.justfile_mentions.specs.Mentions.{defines_parameter, is_between, is_of_parameter, is_seen, meaning, names_parameter, parameters_among};
+ghost use Rattle.justfile_mentions.specs.Mentions.{defines_parameter, is_between, is_of_parameter, is_seen, meaning, names_parameter, parameters_among, variable_role};
 
 use editor_language::Role;
+use justfile_builtins::is_constant;
 use justfile_references::{Defaults, Reference};
 use justfile_token::Token;
 use std::alloc::{AllocError, Global};
@@ -84,6 +85,18 @@ fn names_parameter(defaults: Defaults, parameters: &[Token<'_>], used: &Token<'_
     parameters.iter().any(|parameter| is_of_parameter(defaults, parameters, used, parameter))
 }
 
+/// Returns what a name stands for that is no parameter's: a constant that `just` has, even if the
+/// file assigns it too, or a variable.
+fn variable_role(name: &str) -> Role
+    ensures { result ≡ variable_role name.now }
+{
+    if is_constant(name) {
+        Role::Constant
+    } else {
+        Role::Variable
+    }
+}
+
 /// Returns what the name of a reference of an item stands for.
 pub(crate) fn meaning(
     defaults: Defaults,
@@ -100,7 +113,7 @@ pub(crate) fn meaning(
             if names_parameter(defaults, parameters, &reference.token) {
                 Role::Parameter
             } else {
-                Role::Variable
+                variable_role(reference.token.lexeme())
             }
         }
     }

@@ -1,8 +1,11 @@
+pub mod Beside
 pub mod FindingsOfFile
-pub mod Firsts
 pub mod FixesOfFile
 pub mod Given
+pub mod Header
 pub mod ItemMentions
+pub mod Kept
 pub mod Linked
 pub mod Offered
+pub mod Runnable
 pub mod Unformatted

@@ -8,7 +8,7 @@ use Rattle.editor_messages.specs.declared.symbol_kind.SymbolKind.TheVariants as 
 use Rattle.editor_language.specs.declared.parts.FileLink.{FileLink}
 use Rattle.editor_language.specs.declared.parts.Item.{Item}
 use Rattle.justfile_server.specs.Links.{HasGiven, IsChunk, IsPathBy, IsPathOf, IsPathOfModule, Links, none, unlinked, linked}
-use Rattle.justfile_server.specs.Modules.{IsModulePath}
+use Rattle.module_paths.specs.Modules.{IsModulePath}
 
 -- the path of the file of a module, by its name and the path that it is given
 module _ (has : List ℕ → List (String Global) → Type 0) (folder : Option (List ℕ)) (at text : List ℕ) (item : Item) where

@@ -1,6 +1,6 @@
 -- How what is wrong with a justfile is set right.
-use Rattle.std.specs.Prelude.{◌≡◌, ℕ, Bool, true, false, List, [], ◌∷◌, length, nat_lt, IsPermutation, codes}
-use Rattle.std.specs.List.{flat_map}
+use Rattle.std.specs.Prelude.{◌≡◌, ℕ, Bool, true, false, List, [], ◌∷◌, filter, length, nat_lt, IsPermutation, codes}
+use Rattle.std.specs.List.{AllZip, flat_map}
 use Rattle.std.specs.List.Sorted.{IsNonDecreasingBy}
 use Rattle.justfile_ast.specs.declared.ast.Ast.{Ast}
 use Rattle.justfile_canonical.specs.Root.{IsRoot}
@@ -14,6 +14,7 @@ use Rattle.justfile_analysis.specs.Parts.{IsNone}
 use Rattle.editor_language.specs.declared.parts.Problem.{Problem}
 use Rattle.editor_language.specs.declared.parts.QuickFix.{QuickFix}
 use Rattle.justfile_server.specs.Findings.{limit}
+use Rattle.justfile_server.specs.Signs.{Corrects, is_sign}
 
 -- The first problems of a file are set right, as far as they can be; `imported` is whether another file may import it.
 pub record AreFixesOf (imported : Bool) (ast : Ast) (fixes : List QuickFix) : Type 0 where
@@ -32,7 +33,7 @@ abbrev pub AreShortFixes : (uri text : List ℕ) → (is_long : Bool) → List Q
 AreShortFixes uri text false fixes = AreFixesIn uri text fixes
 AreShortFixes uri text true fixes = fixes ≡ []
 
--- Which problems of parsing are set right is left open.
+-- If there are problems, the signs among them are set right. Nothing else that can be set right is told then: that depends on what is wrong.
 abbrev pub AreFixesFor : (uri text : List ℕ) → List Problem → List QuickFix → Type 0
 AreFixesFor uri text [] fixes = AreShortFixes uri text (nat_lt limit (length text)) fixes
-AreFixesFor uri text (problem ∷ others) fixes = Unit {0}
+AreFixesFor uri text (problem ∷ others) fixes = AllZip Corrects (filter (is_sign text) (problem ∷ others)) fixes

@@ -1,7 +1,10 @@
 pub mod Blanks
 pub mod Choices
+pub mod Comments
 pub mod Findings
 pub mod Fixes
+pub mod Headers
 pub mod Links
 pub mod Mentioned
-pub mod Modules
+pub mod Runs
+pub mod Signs

@@ -1,5 +1,5 @@
 -- The files that the imports and the modules of a justfile lead to.
-use Rattle.std.specs.Prelude.{◌≡◌, ◌≤◌, ◌-◌, ℕ, Bool, false, true, List, [], ◌∷◌, Option, None, Some, codes, option_map, string_bytes, String}
+use Rattle.std.specs.Prelude.{◌≡◌, ◌≤◌, ◌-◌, ◌&&◌, ℕ, Bool, false, true, not, List, [], ◌∷◌, Option, None, Some, codes, option_map, string_bytes, String}
 use Rattle.std.specs.List.{slice_range}
 use Rattle.std.specs.Option.{option_or}
 use Rattle.std.specs.Str.{IsCharBoundary}
@@ -15,7 +15,7 @@ use Rattle.editor_messages.specs.declared.symbol_kind.SymbolKind.TheVariants as 
 use Rattle.editor_language.specs.declared.parts.FileLink.{FileLink}
 use Rattle.editor_language.specs.declared.parts.Item.{Item}
 use Rattle.editor_language.specs.declared.parts.Span.{Span}
-use Rattle.justfile_server.specs.Modules.{IsModulePath}
+use Rattle.module_paths.specs.Modules.{IsModulePath, joined}
 
 -- the path that a module is given
 abbrev pub given : TreeItem → Option (List ℕ)
@@ -36,10 +36,27 @@ pub data HasGiven (text : List ℕ) (path : Option (List ℕ)) : Type 0 where
 abbrev pub HasPart : (text : List ℕ) (start end : ℕ) → Type 0
 HasPart text start end = (start ≤ end) × IsCharBoundary text start × IsCharBoundary text end
 
--- the text of an item: with the line feed before it, and nothing if that is no part of the text
-pub data IsChunk (text : List ℕ) (span : Span) (chunk : List ℕ) : Type 0 where
-  cut : chunk ≡ slice_range text (span.start - 1) span.end → IsChunk text span chunk
-  outside : (HasPart text (span.start - 1) span.end → ⊥) → chunk ≡ [] → IsChunk text span chunk
+-- the text from one offset up to another one, and nothing if that is no part of the text
+pub data IsPart (text : List ℕ) (start end : ℕ) (part : List ℕ) : Type 0 where
+  cut : part ≡ slice_range text start end → IsPart text start end part
+  outside : (HasPart text start end → ⊥) → part ≡ [] → IsPart text start end part
+
+-- the text of an item: with the line feed before it
+abbrev pub IsChunk : (text : List ℕ) → Span → (chunk : List ℕ) → Type 0
+IsChunk text span chunk = IsPart text (span.start - 1) span.end chunk
+
+-- an item is a module: an import is of the same kind, and leads to the file that it names
+abbrev pub is_module_kind : SymbolKind → Bool
+is_module_kind symbols.Module = true
+is_module_kind other = false
+
+abbrev pub is_module : Item → Bool
+is_module item = not item.is_link && is_module_kind item.kind
+
+-- these names are in the folder of a document, if it is in one
+abbrev pub AreBeside : (has : List ℕ → List (String Global) → Type 0) → (folder : Option (List ℕ)) → (names : List (String Global)) → Type 0
+AreBeside has None names = Unit {0}
+AreBeside has (Some folder) names = has (joined folder []) names
 
 -- the path of the file that a module leads to
 pub record IsPathOfModule (has : List ℕ → List (String Global) → Type 0) (folder text : List ℕ) (item : Item) (path : Option (List ℕ)) : Type 0 where

@@ -44,7 +44,7 @@ fn push_part(
 }
 
 /// Returns how many bytes of a part of this length are kept: all, or those up to its last item.
-fn kept_of(known: &Known, before: usize, length: usize) -> usize
+pub(crate) fn kept_of(known: &Known, before: usize, length: usize) -> usize
     ensures is { result ≡ kept_of before length known.now }
     ensures within { result ≤ length }
 {

@@ -1,6 +1,6 @@
 //! The items of parts of a text, each parsed by itself.
 ghost use Rattle.std.specs.Prelude.{◌≡◌, ◌-◌};
-ghost use Rattle.justfile_server.specs.Links.{IsChunk};
+ghost use Rattle.justfile_server.specs.Links.{IsChunk, IsPart};
 
 use editor_language::{Analysis, Item, Mention, Span};
 use justfile_canonical::formatting::format_text;
@@ -21,8 +21,15 @@ pub(crate) fn chunk_start(span: Span) -> usize
 pub(crate) fn chunk_text(text: &str, span: Span) -> &str
     ensures { IsChunk text.now span result.now }
 {
-    match text.get(chunk_start(span)..span.end) {
-        Some(chunk) => chunk,
+    part_of(text, chunk_start(span), span.end)
+}
+
+/// Returns the text from one offset up to another one, and nothing if that is no part of the text.
+pub(crate) fn part_of(text: &str, start: usize, end: usize) -> &str
+    ensures { IsPart text.now start end result.now }
+{
+    match text.get(start..end) {
+        Some(part) => part,
         None => "",
     }
 }

@@ -4,12 +4,12 @@ ghost use Rattle.justfile_server.specs.Fixes.{AreFixesFor, AreFixesIn, AreFixesO
 ghost use Rattle.justfile_server.specs.Findings.{limit};
 
 use crate::findings::LIMIT;
-use editor_language::{Problem, QuickFix, Replacement};
+use crate::signs::sign_fixes;
+use editor_language::{Problem, QuickFix};
 use justfile_ast::Ast;
 use justfile_canonical::reading::{Query, query_root};
 use justfile_findings::fixes;
 use justfile_lint::{lint_with_circles, may_be_imported};
-use justfile_mentions::is_name;
 use justfile_token::Fault;
 use std::alloc::{AllocError, Global};
 
@@ -41,7 +41,9 @@ fn file_fixes(ast: &mut Ast<'_>, alloc: Global, imported: bool) -> Result<Vec<Qu
 }
 
 /// Returns how what is wrong in a text is set right, in which there are these problems: if there are, they
-/// alone. It is the text of the document with an address.
+/// alone, since nothing that can be set right is told beside them. It is the text of the document with an
+/// address.
+#[tactic(auto, using(crate::proofs::FixesOfFile::by_signs))]
 pub(crate) fn fixes_of(
     alloc: Global,
     uri: &str,
@@ -52,7 +54,7 @@ pub(crate) fn fixes_of(
 {
     match problems {
         [] => short_fixes(alloc, uri, text),
-        [_, ..] => sign_fixes(alloc, text, problems),
+        [_, ..] => sign_fixes(alloc, text.as_bytes(), problems),
     }
 }
 
@@ -85,57 +87,4 @@ fn no_fixes(alloc: Global) -> Result<Vec<QuickFix>, AllocError>
     ensures { IfOk result (λ found. found.items ≡ []) }
 {
     Ok(Vec::new(alloc))
-}
-
-/// Returns the fixes that put `:=` in the place of `=`, where a problem is that sign.
-fn sign_fixes(
-    alloc: Global,
-    text: &str,
-    problems: &[Problem],
-) -> Result<Vec<QuickFix>, AllocError> {
-    let mut found = Vec::new(alloc);
-    for problem in problems {
-        if is_sign(alloc, text, problem)? {
-            found.push(sign_fix(alloc, problem)?)?;
-        }
-    }
-    Ok(found)
-}
-
-/// Whether a problem is a `=` in whose place a `:=` has to be: it alone is expected, or a name alone is
-/// before it in its line.
-fn is_sign(alloc: Global, text: &str, problem: &Problem) -> Result<bool, AllocError> {
-    if text.get(problem.span.start..problem.span.end) != Some("=") {
-        return Ok(false);
-    }
-    if problem.message.as_str().starts_with("expected ':='") {
-        return Ok(true);
-    }
-    match text.get(..problem.span.start) {
-        Some(before) => is_name(alloc, last_line(before).trim_end()),
-        None => Ok(false),
-    }
-}
-
-/// Returns what a text has after its last line feed.
-fn last_line(text: &str) -> &str {
-    match text.rsplit_once('\n') {
-        Some((_, line)) => line,
-        None => text,
-    }
-}
-
-/// Returns the fix that puts `:=` in the place of the sign that a problem is.
-fn sign_fix(alloc: Global, problem: &Problem) -> Result<QuickFix, AllocError> {
-    let text = String::from_str(alloc, ":=")?;
-    let mut replacements = Vec::new(alloc);
-    replacements.push(Replacement {
-        span: problem.span,
-        text,
-    })?;
-    Ok(QuickFix {
-        span: problem.span,
-        title: String::from_str(alloc, "Replace `=` with `:=`")?,
-        replacements,
-    })
 }

@@ -8,6 +8,8 @@ ghost use Rattle.justfile_server.specs.Findings.{AreFound};
 ghost use Rattle.justfile_server.specs.Fixes.{AreFixesFor};
 ghost use Rattle.justfile_server.specs.Links.{IsPathOf, Links};
 ghost use Rattle.justfile_server.specs.Mentioned.{Mentioned};
+ghost use Rattle.justfile_server.specs.Runs.{AreRunsIn};
+ghost use Rattle.justfile_signatures.specs.Signatures.{IsSignature};
 
 use crate::choices::choices_at;
 use crate::chunk::description_of;
@@ -16,15 +18,19 @@ use crate::findings::findings_of;
 use crate::fixes::fixes_of;
 use crate::links::links_of;
 use crate::mentions::mentions_of;
-use crate::modules::Folders;
 use crate::ranges::formatted_in;
+use crate::runs::runs_of;
 use editor_language::{
-    Analysis, Choices, Colored, FileLink, Finding, Language, Mention, QuickFix, Replacement, Span,
+    Analysis, Choices, Colored, FileLink, Finding, Language, Mention, QuickFix, Replacement, Run,
+    Span,
 };
+use editor_messages::Signature;
 use justfile_analysis::{analysis_after, analysis_of};
 use justfile_canonical::fault::FormatFault;
 use justfile_canonical::formatting::format_text;
 use justfile_mentions::is_name;
+use justfile_signatures::signature_at;
+use module_paths::Folders;
 use std::alloc::{AllocError, Global};
 
 /// Justfiles, and the folders that they are in.
@@ -54,6 +60,10 @@ impl<F: Folders> Language for Justfiles<'_, F> {
 
     ghost fixed = { λ uri text analysis fixes.
         AreFixesFor uri text analysis.problems.items fixes };
+
+    ghost signed = { IsSignature };
+
+    ghost runs = { λ text analysis runs. AreRunsIn text runs };
 
     fn analysis(&self, alloc: Global, text: &str) -> Result<Analysis, AllocError> {
         analysis_of(alloc, text)
@@ -147,6 +157,25 @@ impl<F: Folders> Language for Justfiles<'_, F> {
         analysis: &Analysis,
     ) -> Result<Vec<QuickFix>, AllocError> {
         fixes_of(alloc, uri, text, &analysis.problems)
+    }
+
+    fn signature(
+        &self,
+        alloc: Global,
+        text: &str,
+        mentions: &[Mention],
+        offset: usize,
+    ) -> Result<Option<Signature>, AllocError> {
+        signature_at(alloc, text, mentions, offset)
+    }
+
+    fn runs(
+        &self,
+        alloc: Global,
+        text: &str,
+        _analysis: &Analysis,
+    ) -> Result<Vec<Run>, AllocError> {
+        runs_of(alloc, text)
     }
 
     fn colored(

@@ -1,15 +1,16 @@
 //! The files that the imports and the modules of a justfile lead to.
-ghost use Rattle.std.specs.Prelude.{◌≡◌, IfOk, option_copied, option_map, string_bytes};
-ghost use Rattle.justfile_server.specs.Links.{HasGiven, IsPathOf, Links, given, given_in};
+ghost use Rattle.std.specs.Prelude.{◌≡◌, IfOk, IsTrue, option_copied, option_map, string_bytes};
+ghost use Rattle.std.specs.List.{list_any};
+ghost use Rattle.justfile_server.specs.Links.{AreBeside, HasGiven, IsPathOf, Links, given, given_in, is_module};
 
 use crate::chunk::chunk_text;
-use crate::modules::{Folders, module_path};
 use editor_language::{FileLink, Item};
 use editor_messages::SymbolKind;
 use justfile_ast::Ast;
 use justfile_canonical::reading::{Query, query_root};
 use justfile_item::Item as TreeItem;
 use justfile_token::Fault;
+use module_paths::{Folders, module_path, names_in};
 use std::alloc::{AllocError, Global};
 
 /// Asks a text for the path that its first module with a path is given.
@@ -67,14 +68,54 @@ fn given_path(alloc: Global, chunk: &str) -> Result<Option<String>, AllocError>
     }
 }
 
-/// Returns the path of the file that an item of a text leads to, if it leads to one.
+/// Whether an item is a module.
+fn is_module(item: &Item) -> bool
+    ensures { result ≡ is_module item.now }
+{
+    !item.is_link && matches!(item.kind, SymbolKind::Module)
+}
+
+/// Whether a module is among items.
+fn has_module(items: &[Item]) -> bool
+    ensures { result ≡ list_any is_module items.now }
+{
+    items.iter().any(|item| is_module(item))
+}
+
+/// Returns the names in the folder of a document, if it is a file and a module is among its items.
+#[tactic(auto, using(crate::proofs::Beside::of_folder, crate::proofs::Beside::of_none, crate::proofs::Beside::of_others))]
+fn names_beside<F: Folders>(
+    alloc: Global,
+    folders: &F,
+    folder: Option<&str>,
+    items: &[Item],
+) -> Result<Vec<String>, AllocError>
+    ensures { IfOk result (λ names. IsTrue (list_any is_module items.now)
+        → AreBeside F.has (option_copied folder.entry) names.items) }
+{
+    let Some(folder) = folder else {
+        return Ok(Vec::new(alloc));
+    };
+    if has_module(items) {
+        names_in(alloc, folders, folder, "")
+    } else {
+        Ok(Vec::new(alloc))
+    }
+}
+
+/// Returns the path of the file that an item of a text leads to, if it leads to one. These names are beside
+/// the document, if it is a file and the item is a module.
+#[tactic(auto, using(crate::proofs::Beside::here))]
 fn path_of<F: Folders>(
     alloc: Global,
     folders: &F,
     folder: Option<&str>,
+    beside: &[String],
     text: &str,
     item: &Item,
 ) -> Result<Option<String>, AllocError>
+    requires { IsTrue (is_module item.now)
+        → AreBeside F.has (option_copied folder) beside.now }
     ensures { IfOk result (λ path. IsPathOf F.has (option_copied folder.entry) text.now item.now
         (option_map string_bytes path)) }
 {
@@ -87,7 +128,7 @@ fn path_of<F: Folders>(
     match item.kind {
         SymbolKind::Module => {
             let path = given_path(alloc, chunk_text(text, item.span))?;
-            module_path(alloc, folders, folder, item.name.as_str(), &path)
+            module_path(alloc, folders, folder, beside, item.name.as_str(), &path)
         }
         SymbolKind::Property | SymbolKind::Function | SymbolKind::Variable => Ok(None),
     }
@@ -105,9 +146,10 @@ pub(crate) fn links_of<F: Folders>(
     ensures { IfOk result (λ links. Links (IsPathOf F.has (option_copied folder.entry) text.now)
         items.now links.items) }
 {
+    let beside = names_beside(alloc, folders, folder, items)?;
     let mut links = Vec::new(alloc);
     for item in items {
-        let Some(path) = path_of(alloc, folders, folder, text, item)? else {
+        let Some(path) = path_of(alloc, folders, folder, &beside, text, item)? else {
             continue;
         };
         let span = item.name_span;

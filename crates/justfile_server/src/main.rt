@@ -6,14 +6,17 @@ mod blanks;
 mod choices;
 mod chunk;
 mod colors;
+mod comments;
 mod commit;
 mod findings;
 mod fixes;
+mod headers;
 mod justfiles;
 mod links;
 mod mentions;
-mod modules;
 mod ranges;
+mod runs;
+mod signs;
 
 use commit::COMMIT;
 use editor_server::serve;

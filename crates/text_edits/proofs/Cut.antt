@@ -73,12 +73,7 @@ after_more after p = ap (flat_map (λ (q : Next). q.text.now)) (reverse-append a
 -- the last piece before the place comes after it
 pub moved_back : (before other : List Piece) (after next : List Next) (p : Piece) (b : Next) → other ≡ before ++ p ∷ [] → b.text.now ≡ p.text.now → next ≡ after ++ b ∷ []
     → text_of before next ≡ text_of other after
-moved_back before other after next p b e same f =
-    ap (λ (l : List Next). text_before before ++ text_after l) f
-    ∙ ap (λ (l : List ℕ). text_before before ++ l) (after_more after b ∙ ap (λ (l : List ℕ). l ++ text_after after) same)
-    ∙ sym (append_assoc (text_before before) p.text.now (text_after after))
-    ∙ ap (λ (l : List ℕ). l ++ text_after after) (sym (before_more before p))
-    ∙ ap (λ (l : List Piece). text_of l after) (sym e)
+moved_back before other after next p b e same f = simp (e, f, before_more before p, after_more after b, same, append_assoc)
 
 pub leads_more : (encoding : Encoding) (from : Place) (before : List Piece) (p : Piece) → Leads encoding from before p.start
     → Leads encoding from (before ++ p ∷ []) (place_after encoding p.start p.text.now)
@@ -304,20 +299,11 @@ module _ (front back old : List ℕ) (s e : ℕ) (split : front ++ back ≡ old)
 
   module _ (new next : List ℕ) (put : next ≡ new ++ drop (e - s) back) where
     pub put_in : front ++ next ≡ (take s old ++ new) ++ drop (max e s) old
-    put_in =
-        ap (λ (l : List ℕ). front ++ l) put
-        ∙ sym (append_assoc front new (drop (e - s) back))
-        ∙ ap (λ (l : List ℕ). (l ++ new) ++ drop (e - s) back) (sym front_is)
-        ∙ ap (λ (l : List ℕ). (take s old ++ new) ++ l) (sym back_is)
+    put_in = simp (put, front_is, back_is, append_assoc)
 
     pub put_utf8 : IsUtf8 old → IsUtf8 new → IsCharBoundary old s → IsCharBoundary old e → IsUtf8 (front ++ next)
     put_utf8 u v begins ends =
-        let greater : IsCharBoundary old (max e s) =
-        elim (cases_lt e s) [
-          | inl lt ↦ let m : s ≡ max e s = omega (arith, lt) in subst (IsCharBoundary old) m begins
-          | inr le ↦ let m : e ≡ max e s = omega (arith, le) in subst (IsCharBoundary old) m ends
-        ]
-        in
+        let greater : IsCharBoundary old (max e s) = grind (arith, begins, ends) in
         subst IsUtf8 (sym put_in)
         (IsUtf8-append (take s old ++ new) (drop (max e s) old) (IsUtf8-append (take s old) new (IsUtf8-take old s u begins) v) (IsUtf8-drop old (max e s) u greater))
 
@@ -342,10 +328,7 @@ short_rest after rest piece e h = omega (arith, h, ap length (ap text_after e �
 -- a whole piece is passed
 pub passed_whole : (before new : List Piece) (after rest : List Next) (piece : Next) → after ≡ rest ++ piece ∷ [] → text_before new ≡ text_before before ++ piece.text.now
     → text_of new rest ≡ text_of before after
-passed_whole before new after rest piece e f =
-    ap (λ (l : List ℕ). l ++ text_after rest) f
-    ∙ append_assoc (text_before before) piece.text.now (text_after rest)
-    ∙ sym (ap (λ (l : List ℕ). text_before before ++ l) (ap text_after e ∙ after_more rest piece))
+passed_whole before new after rest piece e f = simp (e, f, after_more rest piece, append_assoc)
 
 -- a part of a piece is passed
 pub passed_part : (before new : List Piece) (after next : List Next) (r : Next) (text passed : List ℕ) (n : ℕ) → text_before new ≡ text_before before ++ passed → passed ≡ take n text

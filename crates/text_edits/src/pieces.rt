@@ -12,7 +12,7 @@ use std::alloc::{AllocError, Global};
 
 /// The greatest length of a piece, in bytes, when a text is cut: to find a place in a piece one goes along
 /// it.
-const PIECE: usize = 512;
+const PIECE: usize = 2_048;
 
 /// The length of the longest text.
 const LONGEST: usize = 9_223_372_036_854_775_807;

@@ -7,4 +7,4 @@ use Rattle.justfile_completion.proofs.found.found_at.Goals as goal
 pub returns-in-None : goal.returns-in-None
 returns-in-None c =
     let uncut_front : AreTokens c.args.front.now all_ends None = search rules in
-    by_last (λ r. r.0.items) (λ r. r.1) c.found_in_item.result c.args.names.now c.args.front.now c.last_item.result.now c.args.typed.now uncut_front c.last_item.ensures c.found_in_item.ensures
+    by_last (λ r. r.0.items) (λ r. r.1) (λ r. r.2) c.found_in_item.result c.args.names.now c.args.front.now c.last_item.result.now c.args.typed.now uncut_front c.last_item.ensures c.found_in_item.ensures

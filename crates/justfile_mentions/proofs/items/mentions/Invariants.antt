@@ -1,5 +1,6 @@
 use Rattle.std.proofs.Common.{map, take}
-use Rattle.justfile_mentions.specs.Mentions.{AreMentions, noted}
+use Rattle.justfile_mentions.specs.Mentions.{AreMentions}
+use Rattle.justfile_mentions.specs.Noted.{noted}
 use Rattle.justfile_mentions.proofs.items.mentions.Given as goal
 
 abbrev pub invariant-loop-index : goal.invariant-loop-index

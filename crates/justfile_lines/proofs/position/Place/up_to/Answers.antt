@@ -1,23 +1,42 @@
-use Rattle.std.proofs.Common.{◌≡◌, ◌∙◌, refl, sym, subst, arith, inl, inr, true}
+use Rattle.std.proofs.Common.{◌≡◌, ◌∙◌, ◌-◌, ℕ, List, ap, sym, subst, take, arith, inl, inr, true}
 use Rattle.std.proofs.lemmas.Bool.{cases_lt}
-use Rattle.std.proofs.lemmas.Str.{IsCharBoundary-start}
-use Rattle.justfile_lines.specs.Going.{is_past}
-use Rattle.justfile_lines.proofs.Ahead.{count_is, next_in_text, next_offset, next_place, not_a_bound, stopped}
+use Rattle.std.specs.Str.{IsCharBoundary}
+use Rattle.justfile_lines.specs.Going.{IsInText, is_past, place_after}
+use Rattle.justfile_lines.proofs.Ahead.{all_in_text, count_is, ended, next_in_text, next_offset, next_place, not_a_bound, not_past_before, stopped}
 use Rattle.justfile_lines.proofs.position.Place.up_to.Goals as goal
 
 pub bytes-init : goal.bytes-init
-bytes-init c = record {
-  within = omega arith;
-  kept = omega arith;
-  boundary = IsCharBoundary-start c.args.text.now c.utf8.text;
-  latest = λ other _ le. le;
-  last_is = refl;
-  here_is = refl;
-  last_up_to = c.requires.up_to;
-  here_up_to = c.requires.up_to;
-  in_text = c.requires.place;
-  offset = omega arith;
-}
+bytes-init c =
+    let line = c.to_line-here in
+    let text = c.args.text.now in
+    let same = c.as_bytes-bytes.ensures.value in
+    let at = line.result.offset - c.args.self.offset in
+    let boundary : IsCharBoundary text at = subst (λ (t : List ℕ). IsCharBoundary t at) same line.ensures.boundary in
+    let is : line.result ≡ place_after c.args.encoding c.args.self (take at text) =
+    line.ensures.is c.args.encoding ∙ ap (λ (t : List ℕ). place_after c.args.encoding c.args.self (take at t)) same in
+    let not_past = not_past_before c.args.position c.args.self line.result c.requires.up_to line.ensures.before in
+    record {
+      within = boundary.0;
+      kept = omega arith;
+      boundary = boundary;
+      latest = λ other _ le. le;
+      last_is = is;
+      here_is = is;
+      last_up_to = not_past;
+      here_up_to = not_past;
+      in_text = subst IsInText (sym is) (all_in_text c.args.encoding c.args.self (take at text) c.requires.place);
+      offset = omega (arith, line.ensures.from);
+    }
+
+pub returns : goal.returns
+returns c =
+    let i = c.bytes.invariant in (
+      c.bytes.count,
+      ended c.args.encoding c.args.self c.bytes.last c.args.text.now c.args.position c.bytes.count c.bytes.at i.boundary i.last_up_to i.last_is i.latest
+          (omega (arith, c.bytes-test.false, c.as_bytes-bytes.ensures.len)),
+      i.last_is,
+      count_is c.args.encoding c.args.self c.bytes.last c.args.text.now c.bytes.count i.boundary.0 i.last_is,
+    )
 
 pub returns-then-is_past : goal.returns-then-is_past
 returns-then-is_past c =

@@ -1,0 +1,4 @@
+pub mod Joined
+pub mod Named
+pub mod Parts
+pub mod Signed

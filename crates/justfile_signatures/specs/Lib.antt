@@ -1,0 +1,3 @@
+pub mod Known
+pub mod Label
+pub mod Signatures
