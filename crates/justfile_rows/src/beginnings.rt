@@ -2,13 +2,13 @@
 //! settles: prints to itself.
 
 use crate::expansion::Expansion;
-use crate::files::parse;
 use crate::printing::settles;
-use crate::question::{Question, push_parsed};
+use crate::question::{Question, ask};
 use justfile_syntax::ast::Ast;
 use justfile_syntax::compile_error_kind::CompileErrorKind;
 use justfile_syntax::fault::Fault;
 use justfile_syntax::indentation::Indentation;
+use justfile_syntax::numerator::Numerator;
 use justfile_syntax::parser::RECURSION_LIMIT;
 use row_notation::{Answer, Text, indentation_of};
 
@@ -42,8 +42,9 @@ pub(crate) fn is_of_text(fault: &Fault<'_>) -> bool {
 
 /// Writes what is wrong with the result for a text, and returns whether it is a file.
 fn is_file(answer: &mut Answer, text: &str) -> bool {
-    let parsed = parse(answer.alloc(), &Expansion::Unchanged, RECURSION_LIMIT, text);
-    push_parsed(parsed, answer, text, Question::Beginning, &[])
+    let how = (Expansion::Unchanged, RECURSION_LIMIT);
+    let mut numerator = Numerator::new(0);
+    ask(answer, &mut numerator, how, text, Question::Beginning, &[])
 }
 
 /// Writes what is wrong with the results for a text's beginnings, and then whether the text is a

@@ -3,63 +3,24 @@
 use crate::beginnings::beginnings;
 use crate::expansion::Expansion;
 use crate::printing::prints;
-use crate::question::{Question, push_parsed};
-use crate::resolution::resolves;
+use crate::question::{Question, ask};
 use crate::word::Word;
 use justfile_syntax::ast::Ast;
-use justfile_syntax::fault::{CompileResult, Fault};
+use justfile_syntax::fault::Fault;
 use justfile_syntax::format::own_indentation;
 use justfile_syntax::indentation::Indentation;
 use justfile_syntax::numerator::{Number, Numerator};
-use justfile_syntax::parser::{Parser, RECURSION_LIMIT, release};
-use justfile_syntax::source::Source;
-use justfile_syntax::version::Version;
-use row_items::items::{WORKING_DIRECTORY, file};
+use justfile_syntax::parser::{RECURSION_LIMIT, release};
+use row_items::items::file;
 use row_items::items_part::{ItemsPart, push_of_items};
 use row_items::names::{features, unstable};
 use row_items::printing::{copies, prints_item, stops};
-use row_items::recipes::{FILE_DEPTH, IMPORT_OFFSETS, RecipePart};
+use row_items::recipes::RecipePart;
 use row_notation::{
     Answer, Text, field_at, indentation_at, number_at, push_expected, push_fault, push_message,
 };
 use row_parts::values::ValueForm;
 use std::alloc::Global;
-
-/// Parses a text under a limit of depth, with numbers from a numerator.
-fn parse_from<'src>(
-    alloc: Global,
-    numerator: &mut Numerator,
-    expansion: &Expansion<'_>,
-    limit: usize,
-    text: &'src str,
-) -> CompileResult<'src, Ast<'src>> {
-    let source = Source {
-        file_depth: FILE_DEPTH,
-        import_offsets: IMPORT_OFFSETS,
-        namepath: None,
-        working_directory: WORKING_DIRECTORY,
-    };
-    Parser::parse_source(
-        alloc,
-        numerator,
-        "justfile",
-        &source,
-        text,
-        expansion,
-        Version::CURRENT,
-        limit,
-    )
-}
-
-/// Parses a text under a limit of depth, with numbers from 0.
-pub(crate) fn parse<'src>(
-    alloc: Global,
-    expansion: &Expansion<'_>,
-    limit: usize,
-    text: &'src str,
-) -> CompileResult<'src, Ast<'src>> {
-    parse_from(alloc, &mut Numerator::new(0), expansion, limit, text)
-}
 
 /// Writes what a row's word asks for about a file.
 fn push_file(ast: &mut Ast<'_>, answer: &mut Answer, word: Word, fields: &[String]) {
@@ -205,14 +166,14 @@ fn push_text(answer: &mut Answer, word: Word, fields: &[String]) {
     let mut numerator = numerator_of(word, fields);
     let text = text_of(word, fields);
     let mut found = Answer::new(answer.alloc());
-    let parsed = parse_from(
-        answer.alloc(),
+    ask(
+        &mut found,
         &mut numerator,
-        &expansion_of(word, fields),
-        limit_of(word, fields),
+        (expansion_of(word, fields), limit_of(word, fields)),
         text,
+        question_of(word),
+        fields,
     );
-    push_parsed(parsed, &mut found, text, Question::Word(word), fields);
     if word == Word::Numbers {
         push_next(answer, &mut numerator);
     }
@@ -295,8 +256,17 @@ fn text_of(word: Word, fields: &[String]) -> &str {
         | Word::PrintsUnder
         | Word::RejectedUnder
         | Word::Sigils => field_at(fields, 1),
-        Word::Numbers | Word::Stops => field_at(fields, 2),
+        Word::Numbers | Word::Resolves | Word::Stops => field_at(fields, 2),
         _ => field_at(fields, 0),
+    }
+}
+
+/// Returns what a row's word asks about the file that its text is parsed to. `resolves` changes the
+/// file, and asks about no copy.
+fn question_of(word: Word) -> Question {
+    match word {
+        Word::Resolves => Question::Resolved,
+        _ => Question::Word(word),
     }
 }
 
@@ -304,8 +274,6 @@ fn text_of(word: Word, fields: &[String]) -> &str {
 pub(crate) fn push_fields(answer: &mut Answer, word: Word, fields: &[String]) {
     if word == Word::Beginnings {
         beginnings(answer, join_fields(answer.alloc(), fields).as_str());
-    } else if word == Word::Resolves {
-        resolves(answer, fields);
     } else {
         push_text(answer, word, fields);
     }

@@ -1,4 +1,6 @@
-//! Runs rows of data about justfiles, and compares what they find with what they expect.
+//! Runs rows of data about justfiles and about what is built on the library: the program `justfmt`,
+//! callers, surveys, problems with names, and attributes and interpreters that are made. Compares
+//! what they find with what they expect.
 //!
 //! The arguments are the names of files of rows. A row has a word, which says what it does, then
 //! its input, and then what it expects:
@@ -14,15 +16,17 @@
 #![tactic(auto)]
 
 mod beginnings;
+mod callers;
 mod calls;
 mod expansion;
 mod fields;
 mod files;
+mod lints;
 mod printing;
+mod program;
 mod question;
-mod resolution;
-mod roots;
 mod scarce;
+mod surveys;
 mod symbols;
 mod word;
 

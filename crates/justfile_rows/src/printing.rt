@@ -2,9 +2,10 @@
 //! first parameter, because its lifetimes after those of others make the check exceed its limit.
 
 use crate::expansion::Expansion;
-use crate::files::parse;
+use crate::question::parse;
 use justfile_syntax::ast::Ast;
 use justfile_syntax::indentation::Indentation;
+use justfile_syntax::numerator::Numerator;
 use justfile_syntax::parser::release;
 use row_items::printing::{prints_once, push_printed_text};
 use row_notation::{Answer, push_fault};
@@ -22,7 +23,9 @@ pub(crate) fn prints(ast: &Ast<'_>, answer: &mut Answer, indentation: Indentatio
 /// same text.
 pub(crate) fn settles(answer: &mut Answer, indentation: Indentation, limit: usize, printed: &str) {
     let mut again = Answer::new(answer.alloc());
-    match parse(answer.alloc(), &Expansion::Unchanged, limit, printed) {
+    let mut numerator = Numerator::new(0);
+    let unchanged = Expansion::Unchanged;
+    match parse(answer.alloc(), &mut numerator, &unchanged, limit, printed) {
         Ok(mut ast) => {
             prints_once(&mut ast, &mut again, indentation);
             release(ast);

@@ -1,8 +1,9 @@
 //! Symbols of root files, as rows show them.
 
+use crate::question::{Question, push_parsed};
 use justfile_syntax::ast::Ast;
 use justfile_syntax::outline::symbols;
-use justfile_syntax::parser::{Inspector, inspect_root, parse_root, release};
+use justfile_syntax::parser::{Inspector, inspect_root, parse_root};
 use row_items::symbols::{push_outline, push_symbols};
 use row_notation::{Answer, push_fault};
 
@@ -10,33 +11,28 @@ use row_notation::{Answer, push_fault};
 /// file has others, and `read` if the file that is lent to an inspector does.
 pub(crate) fn push_symbols_of(answer: &mut Answer, text: &str) {
     let mut found = Answer::new(answer.alloc());
-    match symbols(answer.alloc(), "justfile", text) {
-        Ok(symbols) => push_symbols(&mut found, &symbols),
-        Err(fault) => push_fault(&mut found, text, &fault),
-    }
+    push_found(&mut found, text);
     answer.push_all(&found);
     let mut parsed = Answer::new(answer.alloc());
-    push_parsed(&mut parsed, text);
+    push_outline_of(&mut parsed, text);
     answer.push_unless("parsed", &parsed, &found);
     let mut read = Answer::new(answer.alloc());
     push_inspected(&mut read, text);
     answer.push_unless("read", &read, &found);
 }
 
-/// Writes the outline of the file that a text is parsed to.
-fn push_parsed(answer: &mut Answer, text: &str) {
-    match parse_root(answer.alloc(), "justfile", text) {
-        Ok(mut ast) => {
-            push_file(&mut ast, answer);
-            release(ast);
-        }
+/// Writes the symbols that a call returns for a text.
+fn push_found(answer: &mut Answer, text: &str) {
+    match symbols(answer.alloc(), "justfile", text) {
+        Ok(symbols) => push_symbols(answer, &symbols),
         Err(fault) => push_fault(answer, text, &fault),
     }
 }
 
-/// Writes the outline of a file.
-fn push_file(ast: &mut Ast<'_>, answer: &mut Answer) {
-    push_outline(&ast.items, answer);
+/// Writes the outline of the file that a text is parsed to.
+fn push_outline_of(answer: &mut Answer, text: &str) {
+    let parsed = parse_root(answer.alloc(), "justfile", text);
+    push_parsed(parsed, answer, text, Question::Outline, &[]);
 }
 
 /// An inspector that writes the outline of a file.

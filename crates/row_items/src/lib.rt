@@ -1,10 +1,13 @@
-//! Items and files, as rows show them. `docs/ROWS.md` describes the words that show them.
+//! Items and files, as rows show them; also attributes and interpreters that are made.
+//! `docs/ROWS.md` describes the words that show them.
 #![tactic(auto)]
 
 mod copies;
 mod expressions;
+pub mod interpreters;
 pub mod items;
 pub mod items_part;
+pub mod made;
 pub mod names;
 mod orders;
 mod parts;

@@ -125,14 +125,14 @@ impl Answer {
         }
     }
 
-    /// Returns the fields as text.
-    ///
-    /// # Errors
-    ///
-    /// Memory ran out for one of them.
-    pub fn finish(self) -> Result<String, AllocError> {
-        let Answer { notation } = self;
-        notation.finish()
+    /// Whether the fields are those of another answer. They aren't if memory ran out for one of them.
+    pub(crate) fn is_equal(&self, other: &Answer) -> bool {
+        self.notation.is_equal(&other.notation)
+    }
+
+    /// Appends the fields to a text.
+    pub(crate) fn put_to(&self, text: &mut Text) {
+        text.put_text(&self.notation);
     }
 }
 

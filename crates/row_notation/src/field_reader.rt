@@ -1,7 +1,7 @@
 //! Reads the fields of a line.
 
 use crate::text::Text;
-use std::alloc::{AllocError, Global};
+use std::alloc::Global;
 use std::mem;
 
 /// What comes before the next character.
@@ -74,26 +74,29 @@ impl FieldReader {
         }
     }
 
+    /// Drops what was read, to read another row.
+    pub(crate) fn restart(&mut self) {
+        self.state = State::Blank;
+        self.field.clear();
+        self.piece.clear();
+        self.fields.clear();
+    }
+
+    /// Returns the allocator of the fields.
+    pub(crate) fn alloc(&self) -> Global {
+        self.alloc
+    }
+
+    /// Whether memory ran out.
+    pub(crate) fn is_short(&self) -> bool {
+        self.is_short
+    }
+
     /// Returns the fields, or `None` if they can't be read.
-    ///
-    /// # Errors
-    ///
-    /// Memory ran out.
-    pub(crate) fn finish(self) -> Result<Option<Vec<String>>, AllocError> {
-        let FieldReader {
-            alloc: _,
-            state,
-            field: _,
-            piece: _,
-            fields,
-            is_short,
-        } = self;
-        if is_short {
-            return Err(AllocError);
-        }
-        match state {
-            State::Blank => Ok(Some(fields)),
-            _ => Ok(None),
+    pub(crate) fn fields(&self) -> Option<&[String]> {
+        match self.state {
+            State::Blank => Some(self.fields.as_slice()),
+            _ => None,
         }
     }
 

@@ -10,7 +10,6 @@ mod fields;
 mod literal;
 mod names;
 mod rejection;
-mod row;
 mod run;
 mod stream;
 mod text;
@@ -24,7 +23,7 @@ pub use crate::fields::{
 pub use crate::literal::push_string_kind;
 pub use crate::names::{names_of, path_from, path_of, tokens_of};
 pub use crate::rejection::{
-    kind_of, place_after, push_expected, push_fault, push_message, push_rejection,
+    place_after, push_expected, push_fault, push_kind, push_message, push_rejection,
 };
 pub use crate::run::{RowWord, run_rows};
 pub use crate::stream::Stream;

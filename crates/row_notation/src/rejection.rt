@@ -2,9 +2,10 @@
 
 use crate::answer::Answer;
 use crate::each::push_each_debug;
-use justfile_token::{CompileError, CompileErrorKind, Fault, Name, StringKind, StringLiteral};
-use justfile_vocabulary::TokenKind;
-use std::alloc::{AllocError, Global};
+use crate::text::Text;
+use justfile_numbers::Version;
+use justfile_token::{CompileError, CompileErrorKind, Fault, Name, StringLiteral, Token};
+use justfile_vocabulary::{Keyword, TokenKind};
 
 /// Returns the line and the column after `before`, a beginning of the text. A newline at the end of
 /// a text doesn't begin a line.
@@ -19,119 +20,166 @@ pub fn place_after(text: &str, before: &str) -> (usize, usize) {
     (line, before.len() - start)
 }
 
-/// Returns the name of a kind of error with a name that it holds, and the offset of that.
-fn kind_with_name(
-    alloc: Global,
-    kind: &str,
-    field: &str,
-    name: &Name<'_>,
-) -> Result<String, AllocError> {
-    let at = name.token.offset;
-    format!(in alloc; "{kind} {{ {field}: {name}@{at} }}")
+/// Writes a name after a text, with its offset.
+fn put_name(shown: &mut Text, before: &str, name: &Name<'_>) {
+    shown.put(before);
+    shown.put_display(name);
+    shown.put("@");
+    shown.put_number(name.token.offset);
 }
 
-/// Returns the name of a kind of error with what it holds, a key with its offset.
-fn kind_with_key(alloc: Global, kind: &CompileErrorKind<'_>) -> Result<String, AllocError> {
+/// Writes a number after a text.
+fn put_number(shown: &mut Text, before: &str, number: usize) {
+    shown.put(before);
+    shown.put_number(number);
+}
+
+/// Writes the value of a key after a text, and the end of what an error holds.
+fn put_value(shown: &mut Text, before: &str, value: &String) {
+    shown.put(before);
+    shown.put_debug(value);
+    shown.put(" }");
+}
+
+/// Writes the literal of a group that was first on this line: its lexeme, its offset, its text, its
+/// delimiter, its width, and whether it is a part.
+fn put_group(shown: &mut Text, first: usize, group: &StringLiteral<'_>) {
+    put_number(shown, "DuplicateGroupAttribute { first: ", first);
+    shown.put(", group: ");
+    shown.put_display(group);
+    put_number(shown, "@", group.token.offset);
+    shown.put("‹");
+    shown.put(group.cooked.as_str());
+    shown.put("› ");
+    shown.put_debug(&group.kind.delimiter);
+    shown.put(if group.kind.indented {
+        " tripled"
+    } else {
+        " single"
+    });
+    shown.put(if group.part.is_some() {
+        " part }"
+    } else {
+        " }"
+    });
+}
+
+/// Writes the keywords that are expected, and the token that is found.
+fn put_keywords(shown: &mut Text, expected: &Vec<Keyword>, found: &Token<'_>) {
+    shown.put("ExpectedKeyword { expected: ");
+    shown.put_debug(expected);
+    shown.put(", found: ");
+    shown.put(found.lexeme());
+    put_number(shown, "@", found.offset);
+    shown.put(" }");
+}
+
+/// Writes two versions as they are displayed.
+fn put_versions(shown: &mut Text, current: &Version, minimum: &Version) {
+    shown.put("MinimumVersion { current: ");
+    shown.put_display(current);
+    shown.put(", minimum: ");
+    shown.put_display(minimum);
+    shown.put(" }");
+}
+
+/// Writes an attribute with its number of arguments, and the least and the most that it takes.
+fn put_counts(shown: &mut Text, attribute: &Name<'_>, found: usize, (min, max): (usize, usize)) {
+    put_name(
+        shown,
+        "AttributeArgumentCountMismatch { attribute: ",
+        attribute,
+    );
+    put_number(shown, ", found: ", found);
+    put_number(shown, ", min: ", min);
+    put_number(shown, ", max: ", max);
+    shown.put(" }");
+}
+
+/// Writes a kind of error that holds only a name.
+fn put_held(shown: &mut Text, before: &str, name: &Name<'_>) {
+    put_name(shown, before, name);
+    shown.put(" }");
+}
+
+/// Writes a kind of error that holds only a name, or nothing that has a place.
+fn put_other(shown: &mut Text, kind: &CompileErrorKind<'_>) {
     match kind {
         CompileErrorKind::ArgAttributeRequiresMultipleOrVariadic { key } => {
-            kind_with_name(alloc, "ArgAttributeRequiresMultipleOrVariadic", "key", key)
+            put_held(shown, "ArgAttributeRequiresMultipleOrVariadic { key: ", key)
         }
         CompileErrorKind::ArgAttributeRequiresOption { key } => {
-            kind_with_name(alloc, "ArgAttributeRequiresOption", "key", key)
+            put_held(shown, "ArgAttributeRequiresOption { key: ", key)
         }
-        CompileErrorKind::ArgumentCountParse { key, source, value } => {
-            let at = key.token.offset;
-            format!(in alloc;
-                "ArgumentCountParse {{ key: {key}@{at}, source: {source:?}, value: {value:?} }}"
-            )
-        }
-        CompileErrorKind::ArgumentCountValue { key, value } => {
-            let at = key.token.offset;
-            format!(in alloc; "ArgumentCountValue {{ key: {key}@{at}, value: {value:?} }}")
-        }
+        CompileErrorKind::AttributeArgumentExpression { attribute } => put_held(
+            shown,
+            "AttributeArgumentExpression { attribute: ",
+            attribute,
+        ),
         CompileErrorKind::AttributeKeyMissingValue { key } => {
-            kind_with_name(alloc, "AttributeKeyMissingValue", "key", key)
+            put_held(shown, "AttributeKeyMissingValue { key: ", key)
         }
         CompileErrorKind::AttributeKeyTakesNoValue { key } => {
-            kind_with_name(alloc, "AttributeKeyTakesNoValue", "key", key)
+            put_held(shown, "AttributeKeyTakesNoValue { key: ", key)
         }
-        kind => format!(in alloc; "{kind:?}"),
+        kind => shown.put_debug(kind),
     }
 }
 
-/// Returns the error for a group that was first on this line, with the text of its literal.
-fn kind_of_group(
-    alloc: Global,
-    first: usize,
-    group: &StringLiteral<'_>,
-) -> Result<String, AllocError> {
-    let at = group.token.offset;
-    let cooked = group.cooked.as_str();
-    let StringKind {
-        delimiter,
-        indented,
-    } = group.kind;
-    let width = if indented { "tripled" } else { "single" };
-    let part = if group.part.is_some() { " part" } else { "" };
-    format!(in alloc;
-        "DuplicateGroupAttribute {{ first: {first}, group: {group}@{at}‹{cooked}› {delimiter:?} {width}{part} }}"
-    )
-}
-
-/// Returns the name of a kind of error with what it holds, in one about settings and paths of files
-/// a token with its offset and a version as it is displayed.
-fn kind_of_setting(alloc: Global, kind: &CompileErrorKind<'_>) -> Result<String, AllocError> {
+/// Writes the name of a kind of error with what it holds: a name, literal or token with its offset,
+/// or a version as it is displayed. For an unexpected token, leaves out what is expected.
+fn put_kind(shown: &mut Text, kind: &CompileErrorKind<'_>) {
     match kind {
-        CompileErrorKind::ExpectedKeyword { expected, found } => {
-            let (lexeme, at) = (found.lexeme(), found.offset);
-            format!(in alloc; "ExpectedKeyword {{ expected: {expected:?}, found: {lexeme}@{at} }}")
+        CompileErrorKind::ArgumentCountParse { key, source, value } => {
+            put_name(shown, "ArgumentCountParse { key: ", key);
+            shown.put(", source: ");
+            shown.put_debug(source);
+            put_value(shown, ", value: ", value);
         }
-        CompileErrorKind::MinimumVersion { current, minimum } => {
-            format!(in alloc; "MinimumVersion {{ current: {current}, minimum: {minimum} }}")
+        CompileErrorKind::ArgumentCountValue { key, value } => {
+            put_name(shown, "ArgumentCountValue { key: ", key);
+            put_value(shown, ", value: ", value);
         }
-        kind => kind_with_key(alloc, kind),
-    }
-}
-
-/// Returns the name of a kind of error with what it holds: a name, literal or token with its
-/// offset, or a version as it is displayed. For an unexpected token, leaves out what is expected.
-pub fn kind_of(alloc: Global, kind: &CompileErrorKind<'_>) -> Result<String, AllocError> {
-    match kind {
         CompileErrorKind::AttributeArgumentCountMismatch {
             attribute,
             found,
             min,
             max,
-        } => {
-            let at = attribute.token.offset;
-            format!(in alloc;
-                "AttributeArgumentCountMismatch {{ attribute: {attribute}@{at}, found: {found}, min: {min}, max: {max} }}"
-            )
-        }
-        CompileErrorKind::AttributeArgumentExpression { attribute } => {
-            kind_with_name(alloc, "AttributeArgumentExpression", "attribute", attribute)
-        }
+        } => put_counts(shown, attribute, *found, (*min, *max)),
         CompileErrorKind::DuplicateAttribute { attribute, first } => {
-            let at = attribute.token.offset;
-            format!(in alloc;
-                "DuplicateAttribute {{ attribute: {attribute}@{at}, first: {first} }}"
-            )
+            put_name(shown, "DuplicateAttribute { attribute: ", attribute);
+            put_number(shown, ", first: ", *first);
+            shown.put(" }");
         }
         CompileErrorKind::DuplicateGroupAttribute { first, group } => {
-            kind_of_group(alloc, *first, group)
+            put_group(shown, *first, group)
+        }
+        CompileErrorKind::ExpectedKeyword { expected, found } => {
+            put_keywords(shown, expected, found)
+        }
+        CompileErrorKind::MinimumVersion { current, minimum } => {
+            put_versions(shown, current, minimum)
         }
         CompileErrorKind::UnexpectedToken { found, .. } => {
-            format!(in alloc; "UnexpectedToken {found:?}")
+            shown.put("UnexpectedToken ");
+            shown.put_debug(found);
         }
-        kind => kind_of_setting(alloc, kind),
+        kind => put_other(shown, kind),
     }
+}
+
+/// Writes the name of a kind of error with what it holds as a field.
+pub fn push_kind(answer: &mut Answer, kind: &CompileErrorKind<'_>) {
+    let mut shown = Text::new(answer.alloc());
+    put_kind(&mut shown, kind);
+    answer.push_text(shown);
 }
 
 /// Writes an error: its kind, and the offset and the length of its token. Also writes its line and
 /// column if they aren't those of the offset.
 pub fn push_rejection(answer: &mut Answer, text: &str, error: &CompileError<'_>) {
     let token = error.token;
-    answer.push_made(kind_of(answer.alloc(), &error.kind));
+    push_kind(answer, &error.kind);
     answer.push_number(token.offset);
     answer.push_number(token.length);
     let before = text.get(..token.offset).unwrap_or("");
@@ -171,21 +219,22 @@ pub fn push_expected(answer: &mut Answer, text: &str, fault: &Fault<'_>) {
 pub fn push_message(answer: &mut Answer, text: &str, fault: &Fault<'_>) {
     match fault {
         Fault::Compile(error) => {
-            let alloc = answer.alloc();
-            answer.push_made(format!(in alloc; "{error}"));
-            let shown = format!(in alloc; "{error}\n{}", error.token);
-            answer.push_if("undisplayed", !are_equal(&fault.to_string(alloc), &shown));
+            answer.push_display(error);
+            push_undisplayed(answer, fault, error);
         }
         fault => push_fault(answer, text, fault),
     }
 }
 
-/// Whether two texts were made and are equal.
-fn are_equal(one: &Result<String, AllocError>, other: &Result<String, AllocError>) -> bool {
-    match (one, other) {
-        (Ok(one), Ok(other)) => one == other,
-        _ => false,
-    }
+/// Writes `undisplayed` if a fault doesn't display the message of its error and the excerpt.
+fn push_undisplayed(answer: &mut Answer, fault: &Fault<'_>, error: &CompileError<'_>) {
+    let mut displayed = Text::new(answer.alloc());
+    displayed.put_display(fault);
+    let mut shown = Text::new(answer.alloc());
+    shown.put_display(error);
+    shown.put("\n");
+    shown.put_display(&error.token);
+    answer.push_if("undisplayed", !displayed.is_equal(&shown));
 }
 
 /// Writes the names of kinds of tokens.

@@ -1,10 +1,11 @@
 //! Runs the rows of files, and compares what they find with what they expect.
 
 use crate::answer::Answer;
-use crate::row::{Row, rows_of};
-use std::alloc::{AllocError, Global};
+use crate::field_reader::FieldReader;
+use crate::text::Text;
+use std::alloc::Global;
 use std::process::ExitCode;
-use std::{env, fs, io};
+use std::{env, fs, io, mem};
 
 /// The end of the name of a file whose rows don't hold, so that a comparison is seen to fail.
 const WRONG_ROWS: &str = "wrong.rows";
@@ -24,126 +25,142 @@ pub trait RowWord: Copy {
     fn push_found(self, answer: &mut Answer, fields: &[String]);
 }
 
-/// The outcome of a row.
+/// How many rows hold, fail and can't be read, and what is to be printed of those of a file.
 #[derive(Drop)]
-enum Outcome {
-    /// What was found is what is expected.
-    Holds,
-    /// Something else was found.
-    Fails { expected: String, found: String },
-    /// The row can't be read.
-    Unreadable,
-}
-
-/// How many rows hold, fail and can't be read.
-#[derive(Drop)]
-struct Counts {
+struct Report {
     hold: u64,
     fail: u64,
     unreadable: u64,
     /// Whether a row fails or can't be read that should hold.
     is_missed: bool,
+    /// The lines about the rows of a file that fail or can't be read.
+    lines: Text,
 }
 
-/// Notes that a row of a file doesn't hold.
-fn note_missed(path: &str, counts: &mut Counts) {
-    if !path.ends_with(WRONG_ROWS) {
-        counts.is_missed = true;
-    }
-}
-
-/// Returns what a row expects.
-fn expected<W: RowWord>(
-    alloc: Global,
-    word: W,
-    least: usize,
-    fields: &[String],
-) -> Result<String, AllocError> {
-    let mut answer = Answer::new(alloc);
-    for (place, field) in fields.iter().enumerate() {
-        if word.is_expected(least, place) {
-            answer.push(field.as_str());
+impl Report {
+    /// Returns the report of no rows.
+    fn new(alloc: Global) -> Self {
+        Report {
+            hold: 0,
+            fail: 0,
+            unreadable: 0,
+            is_missed: false,
+            lines: Text::new(alloc),
         }
     }
-    answer.finish()
-}
 
-/// Returns what is found for a row.
-fn found<W: RowWord>(alloc: Global, word: W, fields: &[String]) -> Result<String, AllocError> {
-    let mut answer = Answer::new(alloc);
-    word.push_found(&mut answer, fields);
-    answer.finish()
-}
-
-/// Compares what is found for a row with what it expects.
-fn compared<W: RowWord>(
-    alloc: Global,
-    word: W,
-    least: usize,
-    fields: &[String],
-) -> Result<Outcome, AllocError> {
-    let expected = expected(alloc, word, least, fields)?;
-    let found = found(alloc, word, fields)?;
-    if found.as_str() == expected.as_str() {
-        return Ok(Outcome::Holds);
+    /// Writes the place of a row that doesn't hold, and notes if it should hold.
+    fn put_place(&mut self, (path, line): (&str, usize)) {
+        self.lines.put(path);
+        self.lines.put(":");
+        self.lines.put_number(line);
+        if !path.ends_with(WRONG_ROWS) {
+            self.is_missed = true;
+        }
     }
-    Ok(Outcome::Fails { expected, found })
+
+    /// Counts a row that can't be read, and writes that.
+    fn miss(&mut self, place: (&str, usize)) {
+        self.unreadable = self.unreadable.saturating_add(1);
+        self.put_place(place);
+        self.lines.put(": can't be read\n");
+    }
+
+    /// Compares what is found for a row with what it expects. Counts the row, and writes both if they
+    /// differ.
+    fn compare(&mut self, place: (&str, usize), expected: &Answer, found: &Answer) {
+        if found.is_equal(expected) {
+            self.hold = self.hold.saturating_add(1);
+            return;
+        }
+        self.fail = self.fail.saturating_add(1);
+        self.put_place(place);
+        self.lines.put(": fails\n  expected: ");
+        expected.put_to(&mut self.lines);
+        self.lines.put("\n  found:    ");
+        found.put_to(&mut self.lines);
+        self.lines.put("\n");
+    }
 }
 
-/// Returns the outcome of a row with these fields, of which the first is its word.
-fn outcome_of<W: RowWord>(alloc: Global, row: &[String]) -> Result<Outcome, AllocError> {
+/// Runs a row with these fields, of which the first is its word.
+fn run_row<W: RowWord>(report: &mut Report, place: (&str, usize), row: &[String], alloc: Global) {
     let Some((written, fields)) = row.split_first() else {
-        return Ok(Outcome::Unreadable);
+        return report.miss(place);
     };
     match W::of(written.as_str()) {
         Some((word, least)) if least <= fields.len() && word.are_readable(fields) => {
-            compared(alloc, word, least, fields)
+            run_word(report, place, fields, (word, least), alloc)
         }
-        _ => Ok(Outcome::Unreadable),
+        _ => report.miss(place),
     }
 }
 
-/// Returns the outcome of a row.
-fn outcome_of_row<W: RowWord>(alloc: Global, row: Row) -> Result<Outcome, AllocError> {
-    match row.fields()? {
-        Some(fields) => outcome_of::<W>(alloc, fields.as_slice()),
-        None => Ok(Outcome::Unreadable),
+/// Runs a row with this word and with these fields, at least as many as it needs.
+fn run_word<W: RowWord>(
+    report: &mut Report,
+    place: (&str, usize),
+    fields: &[String],
+    (word, least): (W, usize),
+    alloc: Global,
+) {
+    let mut expected = Answer::new(alloc);
+    for (index, field) in fields.iter().enumerate() {
+        if word.is_expected(least, index) {
+            expected.push(field.as_str());
+        }
+    }
+    let mut found = Answer::new(alloc);
+    word.push_found(&mut found, fields);
+    report.compare(place, &expected, &found);
+}
+
+/// Runs the row that a reader has read, whose first line has this number; none, if that is 0.
+fn end_row<W: RowWord>(report: &mut Report, reader: &FieldReader, path: &str, line: usize) {
+    if line > 0 {
+        match reader.fields() {
+            Some(fields) => run_row::<W>(report, (path, line), fields, reader.alloc()),
+            None => report.miss((path, line)),
+        }
+    }
+    if reader.is_short() {
+        report.lines.fail();
     }
 }
 
-/// Prints a row unless it holds, and counts it.
-fn report(
-    rt: &HostRuntime,
-    path: &str,
-    line: usize,
-    outcome: Outcome,
-    counts: &mut Counts,
-) -> io::Result<()> {
-    match outcome {
-        Outcome::Holds => counts.hold = counts.hold.saturating_add(1),
-        Outcome::Fails { expected, found } => {
-            counts.fail = counts.fail.saturating_add(1);
-            note_missed(path, counts);
-            println!(rt; "{path}:{line}: fails\n  expected: {expected}\n  found:    {found}")?;
-        }
-        Outcome::Unreadable => {
-            counts.unreadable = counts.unreadable.saturating_add(1);
-            note_missed(path, counts);
-            println!(rt; "{path}:{line}: can't be read")?;
+/// Runs the rows of a text. A line that begins with a blank continues the row before it.
+fn run_text<W: RowWord>(report: &mut Report, alloc: Global, path: &str, text: &str) {
+    let mut reader = FieldReader::new(alloc);
+    let mut row: usize = 0;
+    for (index, line) in text.lines().enumerate() {
+        if !line.is_empty() && !line.starts_with('#') {
+            if !line.starts_with(' ') {
+                end_row::<W>(report, &reader, path, row);
+                reader.restart();
+                row = index.saturating_add(1);
+            }
+            reader.read(line);
         }
     }
-    Ok(())
+    end_row::<W>(report, &reader, path, row);
 }
 
-/// Runs the rows of a file.
-fn run_file<W: RowWord>(rt: &HostRuntime, path: &str, counts: &mut Counts) -> io::Result<()> {
-    let text = fs::read_to_string(rt, path)?;
-    for row in rows_of(rt.alloc(), text.as_str())? {
-        let line = row.line;
-        let outcome = outcome_of_row::<W>(rt.alloc(), row)?;
-        report(rt, path, line, outcome, counts)?;
+/// Runs the rows of a file, and prints those that fail or can't be read.
+fn run_file<W: RowWord>(rt: &HostRuntime, path: &str, report: &mut Report) -> io::Result<()> {
+    match fs::read_to_string(rt, path) {
+        Ok(text) => run_text::<W>(report, rt.alloc(), path, text.as_str()),
+        Err(error) => return Err(error),
     }
-    Ok(())
+    print_lines(rt, report)
+}
+
+/// Prints the lines of a report, and drops them.
+fn print_lines(rt: &HostRuntime, report: &mut Report) -> io::Result<()> {
+    let lines = mem::replace(&mut report.lines, Text::new(rt.alloc()));
+    match lines.finish() {
+        Ok(lines) => print!(rt; "{lines}"),
+        Err(error) => Err(io::Error::from(error)),
+    }
 }
 
 /// Runs the rows of the files that the program's arguments name. Prints those that fail or can't be
@@ -154,25 +171,20 @@ fn run_file<W: RowWord>(rt: &HostRuntime, path: &str, counts: &mut Counts) -> io
 ///
 /// A file can't be read, a line can't be printed, or memory ran out.
 pub fn run_rows<W: RowWord>(rt: &HostRuntime) -> io::Result<ExitCode> {
-    let mut counts = Counts {
-        hold: 0,
-        fail: 0,
-        unreadable: 0,
-        is_missed: false,
-    };
+    let mut report = Report::new(rt.alloc());
     for path in env::args(rt)?.skip(1) {
-        run_file::<W>(rt, path.as_str(), &mut counts)?;
+        run_file::<W>(rt, path.as_str(), &mut report)?;
     }
-    let Counts {
-        hold,
-        fail,
-        unreadable,
-        is_missed,
-    } = counts;
-    println!(rt; "{hold} rows hold, {fail} fail, {unreadable} can't be read")?;
-    Ok(if is_missed {
+    print_counts(rt, &report)?;
+    Ok(if report.is_missed {
         ExitCode::FAILURE
     } else {
         ExitCode::SUCCESS
     })
+}
+
+/// Prints how many rows hold, fail and can't be read.
+fn print_counts(rt: &HostRuntime, report: &Report) -> io::Result<()> {
+    let (hold, fail, unreadable) = (report.hold, report.fail, report.unreadable);
+    println!(rt; "{hold} rows hold, {fail} fail, {unreadable} can't be read")
 }

@@ -77,6 +77,17 @@ impl Text {
         }
     }
 
+    /// Whether another text is the same. It isn't if memory ran out for a piece of one of them.
+    pub(crate) fn is_equal(&self, other: &Text) -> bool {
+        !self.is_short && !other.is_short && self.as_str() == other.as_str()
+    }
+
+    /// Drops what was written.
+    pub(crate) fn clear(&mut self) {
+        self.content.clear();
+        self.is_short = false;
+    }
+
     /// Records that memory ran out.
     pub fn fail(&mut self) {
         self.is_short = true;

@@ -34,8 +34,8 @@ pub fn push_sigils(line: &Line<'_>, answer: &mut Answer, guards: bool) {
     }
 }
 
-/// Writes the number of a line of a body, its properties, and `uncopied` for each copy of it or of
-/// its fragments that isn't equal.
+/// Writes the number of a line of a body, its properties, and `uncopied` if its copy isn't
+/// equal.
 pub fn push_line(line: &Line<'_>, answer: &mut Answer) {
     answer.push_number(line.number);
     answer.push_if("comment", line.is_comment());

@@ -9,7 +9,7 @@ use justfile_token::{
     Delimiter, ExpandFault, Fault, Keyed, Name, StringDelimiter, StringKind, StringLiteral, Token,
 };
 use justfile_vocabulary::{Count, FormatStringPart, ItemKind, ListFeature, TokenKind};
-use row_notation::{Answer, field_at, names_of, number_at, push_copy, tokens_of};
+use row_notation::{Answer, field_at, names_of, number_at, tokens_of};
 use std::alloc::{AllocError, Global};
 
 /// Writes a number of things with their noun, with an irregular one, and the noun alone.
@@ -219,52 +219,19 @@ fn push_marks(
 
 fn push_literal(answer: &mut Answer, literal: &StringLiteral<'_>) {
     answer.push_display(literal);
-    push_copy(literal, literal.clone(answer.alloc()), answer);
     match literal.clone(answer.alloc()) {
-        Ok(copy) => push_apart(answer, literal, &copy),
+        Ok(copy) => push_other(answer, literal, &copy),
         Err(_) => answer.fail(),
     }
 }
 
-fn push_apart(answer: &mut Answer, literal: &StringLiteral<'_>, copy: &StringLiteral<'_>) {
+fn push_other(answer: &mut Answer, literal: &StringLiteral<'_>, copy: &StringLiteral<'_>) {
     let alloc = answer.alloc();
+    answer.push_if("uncopied", *literal != *copy);
     match (literal.to_string(alloc), copy.to_string(alloc)) {
         (Ok(one), Ok(other)) => answer.push_if("apart", one != other),
         _ => answer.fail(),
     }
-}
-
-/// Writes the excerpt of a text's first or last token, or of the token of its error.
-pub(crate) fn excerpt(answer: &mut Answer, fields: &[String]) {
-    match Lexer::lex(answer.alloc(), "justfile", field_at(fields, 1)) {
-        Ok(tokens) => push_excerpt_in(answer, field_at(fields, 0), &tokens),
-        Err(fault) => push_excerpt_of(answer, &fault),
-    }
-}
-
-/// Writes the excerpt of the token of an error.
-fn push_excerpt_of(answer: &mut Answer, fault: &Fault<'_>) {
-    match fault {
-        Fault::Compile(error) => push_excerpt(answer, error.context()),
-        _ => answer.fail(),
-    }
-}
-
-fn push_excerpt_in(answer: &mut Answer, which: &str, tokens: &[Token<'_>]) {
-    match which {
-        "first" => push_excerpt_if(answer, tokens.first()),
-        _ => push_excerpt_if(answer, tokens.last()),
-    }
-}
-
-fn push_excerpt_if(answer: &mut Answer, token: Option<&Token<'_>>) {
-    if let Some(token) = token {
-        push_excerpt(answer, *token);
-    }
-}
-
-fn push_excerpt(answer: &mut Answer, token: Token<'_>) {
-    answer.push_display(&token);
 }
 
 /// Writes the sign between two versions.

@@ -35,11 +35,18 @@ fn push_parts(answer: &mut Answer, rows: &[&str])
     requires { All (λ row. IsTrue (is_part SINGLE FormatStringPart.Single row.now)) rows.now }
 {
     for lexeme in rows {
-        let token = whole(lexeme, TokenKind::StringToken);
-        match format_part(answer.alloc(), token, SINGLE, FormatStringPart::Single) {
-            Ok(literal) => push_part(answer, &literal, &token),
-            Err(fault) => push_fault(answer, lexeme, &fault),
-        }
+        push_part_of(answer, lexeme);
+    }
+}
+
+/// Writes the text of a format string without expressions, in single quotes.
+fn push_part_of(answer: &mut Answer, lexeme: &str)
+    requires { IsTrue (is_part SINGLE FormatStringPart.Single lexeme.now) }
+{
+    let token = whole(lexeme, TokenKind::StringToken);
+    match format_part(answer.alloc(), token, SINGLE, FormatStringPart::Single) {
+        Ok(literal) => push_part(answer, &literal, &token),
+        Err(fault) => push_fault(answer, lexeme, &fault),
     }
 }
 

@@ -6,7 +6,7 @@ use justfile_lex::{Lexer, significant};
 use justfile_spans::{Span, chunks};
 use justfile_token::{CompileError, Fault, StringKind, Token};
 use justfile_vocabulary::TokenKind;
-use row_notation::{Answer, Text, kind_of, place_after, push_fault, push_string_kind};
+use row_notation::{Answer, Text, field_at, place_after, push_fault, push_kind, push_string_kind};
 
 /// The lexemes that results leave out.
 static USUAL_LEXEMES: &[(TokenKind, &str)] = &[
@@ -100,7 +100,7 @@ fn push_tokens(answer: &mut Answer, text: &str, tokens: &[Token<'_>]) {
 /// of its token.
 fn push_error(answer: &mut Answer, error: &CompileError<'_>) {
     let token = error.token;
-    answer.push_made(kind_of(answer.alloc(), &error.kind));
+    push_kind(answer, &error.kind);
     answer.push_debug(&token.kind);
     answer.push_number(token.offset);
     answer.push_number(token.line);
@@ -162,29 +162,46 @@ fn push_spans(answer: &mut Answer, spans: &[Span]) {
 }
 
 /// Writes what a row's word asks for about the tokens of a text.
-fn push_lexed(answer: &mut Answer, word: Word, text: &str, tokens: &[Token<'_>]) {
+fn push_lexed(answer: &mut Answer, word: Word, fields: &[String], tokens: &[Token<'_>]) {
     match word {
         Word::Chunks => push_chunks(answer, tokens),
+        Word::Excerpt => push_excerpt_in(answer, field_at(fields, 0), tokens),
         Word::KindOf => push_literal_kind(answer, tokens),
         Word::Kinds => push_kinds(answer, tokens),
         Word::Significant => push_significant(answer, tokens),
-        _ => push_tokens(answer, text, tokens),
+        _ => push_tokens(answer, field_at(fields, 0), tokens),
     }
 }
 
-/// Writes why a text has no tokens.
-fn push_lexical_fault(answer: &mut Answer, text: &str, fault: &Fault<'_>) {
+/// Writes the excerpt of the first or the last token.
+fn push_excerpt_in(answer: &mut Answer, which: &str, tokens: &[Token<'_>]) {
+    match which {
+        "first" => push_excerpt_if(answer, tokens.first()),
+        _ => push_excerpt_if(answer, tokens.last()),
+    }
+}
+
+fn push_excerpt_if(answer: &mut Answer, token: Option<&Token<'_>>) {
+    if let Some(token) = token {
+        answer.push_display(token);
+    }
+}
+
+/// Writes why a text has no tokens: of an error its excerpt, or what it is and where.
+fn push_lexical_fault(answer: &mut Answer, word: Word, text: &str, fault: &Fault<'_>) {
     match fault {
+        Fault::Compile(error) if word == Word::Excerpt => answer.push_display(&error.context()),
         Fault::Compile(error) => push_error(answer, error),
         fault => push_fault(answer, text, fault),
     }
 }
 
 /// Lexes a text, and writes what a row's word asks for about it, or why it is rejected.
-pub(crate) fn lex(answer: &mut Answer, word: Word, text: &str) {
+pub(crate) fn lex(answer: &mut Answer, word: Word, fields: &[String]) {
+    let text = field_at(fields, if word == Word::Excerpt { 1 } else { 0 });
     match Lexer::lex(answer.alloc(), "justfile", text) {
-        Ok(tokens) => push_lexed(answer, word, text, tokens.as_slice()),
-        Err(fault) => push_lexical_fault(answer, text, &fault),
+        Ok(tokens) => push_lexed(answer, word, fields, tokens.as_slice()),
+        Err(fault) => push_lexical_fault(answer, word, text, &fault),
     }
 }
 

@@ -1,6 +1,6 @@
 //! Messages of errors that no text leads to.
 
-use justfile_token::{CompileErrorKind, Namepath, Token};
+use justfile_token::{CompileError, CompileErrorKind, Namepath, Token};
 use justfile_vocabulary::{AttributeKind, ItemKind, Keyword, ListFeature, TokenKind};
 use row_notation::{Answer, field_at, number_at, path_of, tokens_of};
 use std::alloc::{AllocError, Global};
@@ -113,14 +113,23 @@ fn other(index: usize) -> CompileErrorKind<'static> {
     }
 }
 
-/// Whether the errors at two indices are equal.
-fn are_equal(one: usize, other: usize) -> bool {
-    NAME.error(kind_at(one)) == NAME.error(kind_at(other))
+/// Returns the error at an index of `ERRORS`, at the name.
+fn error_at(index: usize) -> CompileError<'static> {
+    NAME.error(kind_at(index))
+}
+
+/// Whether an error is equal to the one at an index.
+fn is_equal(error: &CompileError<'static>, index: usize) -> bool {
+    *error == error_at(index)
 }
 
 /// Writes the message of an error at a token.
 fn push_message<'src>(answer: &mut Answer, token: &Token<'src>, kind: CompileErrorKind<'src>) {
-    answer.push_display(&token.error(kind));
+    let error = CompileError {
+        kind,
+        token: *token,
+    };
+    answer.push_display(&error);
 }
 
 /// Writes the message of the error with this word, or `none`. Writes `unequal` if it isn't equal to
@@ -129,10 +138,15 @@ pub(crate) fn error(answer: &mut Answer, word: &str) {
     let Some(index) = ERRORS.iter().position(|error| *error == word) else {
         return answer.push("none");
     };
-    push_message(answer, &NAME, kind_at(index));
-    answer.push_if("unequal", !are_equal(index, index));
     let another = if index == 0 { 1 } else { 0 };
-    answer.push_if("equal", are_equal(index, another));
+    push_compared(answer, &error_at(index), index, another);
+}
+
+/// Writes the message of the error at an index, and how it compares.
+fn push_compared(answer: &mut Answer, error: &CompileError<'static>, index: usize, another: usize) {
+    answer.push_display(error);
+    answer.push_if("unequal", !is_equal(error, index));
+    answer.push_if("equal", is_equal(error, another));
 }
 
 /// Writes the messages for this number of arguments of a dependency and of a function, where at

@@ -1,8 +1,8 @@
 //! The words that rows begin with.
 
 use crate::displayed::{
-    alternatives, constants, count, delimiters, excerpt, faults, interpolations, item_kinds,
-    list_features, marks, operators, padded, unpadded, version_order,
+    alternatives, constants, count, delimiters, faults, interpolations, item_kinds, list_features,
+    marks, operators, padded, unpadded, version_order,
 };
 use crate::format_parts::format_parts;
 use crate::lexing::{lex, push_token_count};
@@ -185,9 +185,12 @@ impl RowWord for Word {
             Word::Alternatives => alternatives(answer, text),
             Word::ArgumentCounts => argument_counts(answer, fields),
             Word::AttributeKind => attribute_kind(answer, text),
-            Word::Chunks | Word::KindOf | Word::Kinds | Word::Lexes | Word::Significant => {
-                lex(answer, self, text);
-            }
+            Word::Chunks
+            | Word::Excerpt
+            | Word::KindOf
+            | Word::Kinds
+            | Word::Lexes
+            | Word::Significant => lex(answer, self, fields),
             Word::Circle => circle(answer, text),
             Word::Class => class(answer, text),
             Word::Constants => constants(answer),
@@ -195,7 +198,6 @@ impl RowWord for Word {
             Word::Count => count(answer, fields),
             Word::Delimiters => delimiters(answer),
             Word::Error => error(answer, text),
-            Word::Excerpt => excerpt(answer, fields),
             Word::Faults => faults(answer),
             Word::FormatParts => format_parts(answer),
             Word::Identifier => identifier(answer, fields),

@@ -40,48 +40,6 @@ fn numbers(numerator: &mut Numerator) -> Option<(u32, u32)> {
     Some((bindings, recipes))
 }
 
-/// Lexes the text.
-pub(crate) fn lex<'src>(alloc: Global, text: &'src str) -> CompileResult<'src, Vec<Token<'src>>> {
-    Lexer::lex(alloc, "justfile", text)
-}
-
-/// Compares a result of lexing with these tokens.
-pub(crate) fn judge_tokens<'src>(
-    answer: CompileResult<'src, Vec<Token<'src>>>,
-    tokens: &[Token<'src>],
-) -> Outcome {
-    match answer {
-        Ok(found) => {
-            if found.as_slice() == tokens {
-                Outcome::Plain
-            } else {
-                Outcome::Wrong
-            }
-        }
-        Err(Fault::Memory) => Outcome::Refused,
-        Err(_fault) => Outcome::Wrong,
-    }
-}
-
-/// Checks a result of parsing. If memory ran out, the numerator may not have given more numbers
-/// than the justfile has.
-pub(crate) fn judge_file<'src>(
-    answer: CompileResult<'src, Ast<'src>>,
-    alloc: Global,
-    numerator: &mut Numerator,
-) -> Outcome {
-    let (bindings, recipes) = numbers(numerator).unwrap_or((u32::MAX, u32::MAX));
-    match answer {
-        Ok(mut ast) => {
-            let outcome = judge_printed(&mut ast, alloc, (bindings, recipes));
-            release(ast);
-            outcome
-        }
-        Err(Fault::Memory) if bindings <= BINDINGS && recipes <= RECIPES => Outcome::Refused,
-        Err(_) => Outcome::Wrong,
-    }
-}
-
 /// Checks what a file prints, and how many numbers were given to its bindings and its recipes.
 fn judge_printed(ast: &mut Ast<'_>, alloc: Global, given: (u32, u32)) -> Outcome {
     if given != (BINDINGS, RECIPES) {
@@ -91,7 +49,7 @@ fn judge_printed(ast: &mut Ast<'_>, alloc: Global, given: (u32, u32)) -> Outcome
 }
 
 /// Checks a result of printing.
-pub(crate) fn judge_text(answer: Result<String, AllocError>) -> Outcome {
+fn judge_text(answer: Result<String, AllocError>) -> Outcome {
     match answer {
         Ok(printed) if printed.as_str() == PRINTED => Outcome::Plain,
         Ok(_) => Outcome::Wrong,
@@ -99,43 +57,89 @@ pub(crate) fn judge_text(answer: Result<String, AllocError>) -> Outcome {
     }
 }
 
-/// Lexes the text with `size` bytes of memory, and compares the result with these tokens.
+/// Writes a line if there is a runtime, whether that succeeds or not: no call may depend on it.
+fn mark(rt: Option<&HostRuntime>, line: &str) {
+    if let Some(rt) = rt {
+        let _ = println!(rt; "{line}");
+    }
+}
+
+/// Lexes the text with `size` bytes of memory, between two lines, and compares the result with these
+/// tokens.
 pub(crate) fn lex_with<'src>(
+    rt: Option<&HostRuntime>,
     alloc: Global,
     scarcity: &mut Scarcity,
     size: usize,
     text: &'src str,
     tokens: &[Token<'src>],
 ) -> Outcome {
+    mark(rt, "lexing");
     scarcity.leave(alloc, size);
-    let answer = lex(alloc, text);
+    let answer = Lexer::lex(alloc, "justfile", text);
     scarcity.end();
-    judge_tokens(answer, tokens)
+    mark(rt, "lexed");
+    match answer {
+        Ok(found) => judge_tokens(&found, tokens),
+        Err(fault) => judge_fault(&fault, true),
+    }
 }
 
-/// Parses the text with `size` bytes of memory, and checks the result.
+/// Compares tokens with those that lexing returns with ample memory.
+fn judge_tokens<'src>(found: &[Token<'src>], tokens: &[Token<'src>]) -> Outcome {
+    if found == tokens {
+        Outcome::Plain
+    } else {
+        Outcome::Wrong
+    }
+}
+
+/// Checks a fault: memory may run out, if all else is as it should be.
+fn judge_fault(fault: &Fault<'_>, is_allowed: bool) -> Outcome {
+    match fault {
+        Fault::Memory if is_allowed => Outcome::Refused,
+        _ => Outcome::Wrong,
+    }
+}
+
+/// Parses the text with `size` bytes of memory, between two lines, and checks the result. If memory
+/// ran out, the numerator may not have given more numbers than the justfile has.
 pub(crate) fn parse_with(
+    rt: Option<&HostRuntime>,
     alloc: Global,
     scarcity: &mut Scarcity,
     size: usize,
     text: &str,
 ) -> Outcome {
     let mut numerator = Numerator::new(0);
+    mark(rt, "parsing");
     scarcity.leave(alloc, size);
     let answer = parse(alloc, &mut numerator, text);
     scarcity.end();
-    judge_file(answer, alloc, &mut numerator)
+    mark(rt, "parsed");
+    let given = numbers(&mut numerator).unwrap_or((u32::MAX, u32::MAX));
+    match answer {
+        Ok(mut ast) => {
+            let outcome = judge_printed(&mut ast, alloc, given);
+            release(ast);
+            outcome
+        }
+        Err(fault) => judge_fault(&fault, given.0 <= BINDINGS && given.1 <= RECIPES),
+    }
 }
 
-/// Prints the file with `size` bytes of memory, and checks the result.
+/// Prints the file with `size` bytes of memory, between two lines, and checks the result.
 pub(crate) fn print_with(
     ast: &Ast<'_>,
+    rt: Option<&HostRuntime>,
     alloc: Global,
     scarcity: &mut Scarcity,
     size: usize,
 ) -> Outcome {
+    mark(rt, "printing");
     scarcity.leave(alloc, size);
     let answer = ast.print(alloc, Indentation::default());
     scarcity.end();
+    mark(rt, "printed");
     judge_text(answer)
 }

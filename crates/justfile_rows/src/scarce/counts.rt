@@ -27,7 +27,10 @@ impl Outcome {
 pub(crate) struct Counts {
     refused: u64,
     wrong: u64,
-    last: Outcome,
+    /// The outcome of the last call.
+    pub(crate) last: Outcome,
+    /// The outcome of the same call after it.
+    pub(crate) again: Outcome,
 }
 
 impl Counts {
@@ -37,6 +40,7 @@ impl Counts {
             refused: 0,
             wrong: 0,
             last: Outcome::Refused,
+            again: Outcome::Wrong,
         }
     }
 
@@ -49,6 +53,7 @@ impl Counts {
             self.wrong = self.wrong.saturating_add(1);
         }
         self.last = outcome;
+        self.again = again;
     }
 
     /// Returns what to print about the calls. The last of them should have had enough memory.

@@ -45,6 +45,14 @@ impl Scarcity {
         })
     }
 
+    /// Takes no memory. Calls are then to be made with an ample size.
+    pub(crate) fn none(alloc: Global) -> Self {
+        Scarcity {
+            for_good: Vec::new(alloc),
+            of_reserve: Vec::new(alloc),
+        }
+    }
+
     /// Takes all of the reserve except a block of about `size` bytes, or nothing if `size` is
     /// ample. To free that block, gives back a longer one and takes its beginning again, because a
     /// short block would only serve requests of its own size.

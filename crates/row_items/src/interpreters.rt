@@ -6,7 +6,7 @@ use std::alloc::{AllocError, Global};
 
 /// Writes the command of the default interpreter for scripts, the number of its arguments, and its
 /// text. Writes `uncopied` if its copy isn't equal to it.
-pub(crate) fn push_default(answer: &mut Answer) {
+pub fn push_default(answer: &mut Answer) {
     match Interpreter::<String>::default_script_interpreter(answer.alloc()) {
         Ok(interpreter) => push_script(&interpreter, answer),
         Err(_) => answer.fail(),
@@ -36,7 +36,7 @@ fn interpreter_of<'row>(
 
 /// Writes the interpreter whose command and arguments are the words of a text. Writes `least` and
 /// `other` if the same command without arguments is less than it, and another one.
-pub(crate) fn push_interpreter(answer: &mut Answer, text: &str) {
+pub fn push_interpreter(answer: &mut Answer, text: &str) {
     match interpreter_of(answer.alloc(), text) {
         Ok(interpreter) => push_compared(&interpreter, answer),
         Err(_) => answer.fail(),
