@@ -3,6 +3,7 @@
  * FAULT_CALL   malloc (malloc, calloc and realloc), read or write
  * FAULT_AT     the number of the call, from 1
  * FAULT_HOW    alone: this call is refused
+ *              awhile: this call and the four after it are refused
  *              onward: this call and all after it are refused
  *              short: this call moves one byte (read and write)
  * FAULT_MARK   a file that is made once a call was refused or shortened
@@ -37,12 +38,17 @@ __attribute__((constructor)) static void begin(void) {
     call_name = at && how && mark ? getenv("FAULT_CALL") : NULL;
 }
 
+/* Whether a call after the first that is refused is refused, too. */
+static int goes_on(void) {
+    return strcmp(how, "onward") == 0 || (strcmp(how, "awhile") == 0 && calls < at + 5);
+}
+
 /* Counts a call, and returns whether it is refused or shortened. */
 static enum answer count(const char *name) {
     if (!counts || !call_name || strcmp(name, call_name) != 0)
         return AS_IT_IS;
     calls += 1;
-    if (calls < at || (calls > at && strcmp(how, "onward") != 0))
+    if (calls < at || (calls > at && !goes_on()))
         return AS_IT_IS;
     if (calls == at) {
         long file = syscall(SYS_openat, AT_FDCWD, mark, O_CREAT | O_WRONLY, 0600);

@@ -1,21 +1,23 @@
 #!/usr/bin/env python3
-"""Shows how a formatter grows with its text, on the 40 kinds of justfiles of ratio.py: growth.py FORMATTER FOLDER
+"""Shows how a formatter grows with its text, on the 44 kinds of justfiles of ratio.py: growth.py FORMATTER FOLDER
 
 FORMATTER is a path, or a command with arguments, of a program that formats its standard input. Writes
 the texts into the folder, one after the other, and prints a row for each: its bytes, the instructions, the
 peak of memory and the processor seconds of the shorter text, and how many times that the text of twice the
 size takes; and at last where these ratios are the greatest.
 
-Instructions are those of one run on 100 and on 200 KB, as valgrind counts them. Memory and time are the
-least of seven runs on 1 and on 2 MB. The start of the program is included. `-` is what takes too long (ratio.py).
+Instructions are those of one run on 150 and on 300 KB, as valgrind counts them, which justfmt formats in
+parts. Memory and time are the least of seven runs on 1 and on 2 MB. The start of the program is included.
+`-` is what takes too long (ratio.py).
 """
 import os
 import shlex
 import sys
 
-from ratio import COUNTED, TIMED, counted, greatest, kinds, least, quotient, repeat, run, shown, write
+from ratio import TIMED, counted, greatest, kinds, least, quotient, repeat, run, shown, write
 
 WHAT = ("instructions", "memory", "time")
+COUNTED = 150_000
 
 
 def measured(formatter, path, text, size):
@@ -42,7 +44,7 @@ def main():
     formatter = shlex.split(sys.argv[1])
     os.makedirs(sys.argv[2], exist_ok=True)
     path = os.path.join(sys.argv[2], "text")
-    print("| justfile | bytes | instructions at 100 KB | times at 200 KB | MB at 1 MB | times | seconds | times |")
+    print("| justfile | bytes | instructions at 150 KB | times at 300 KB | MB at 1 MB | times | seconds | times |")
     print("|---|---:|---:|---:|---:|---:|---:|---:|")
     found = {}
     for name, text in kinds().items():

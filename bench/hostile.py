@@ -8,6 +8,7 @@ operands of one run.
 """
 import os
 import random
+import subprocess
 import sys
 
 OPERANDS = 1_000_000
@@ -110,6 +111,9 @@ def named_texts():
         yield f"parameters and one option, {place}", ATTRIBUTES, lambda n: (
             "[arg('p00001', long)]\nfoo " + parameters(order(n)) + ":\n"
         )
+    yield "an option repeated", ATTRIBUTES, lambda n: (
+        "[arg('p', long)]\nfoo " + parameters(range(n)) + " p" * n + ":\n"
+    )
     yield "groups in one line", ATTRIBUTES, lambda n: (
         "[" + ", ".join(f"group('g{i:05}')" for i in range(n)) + "]\nfoo:\n"
     )
@@ -131,8 +135,8 @@ def part_texts():
         yield name, BYTES, lambda n: before + part * n + after
 
 
-def run(program, path):
-    """The status, the processor seconds and the peak of memory in KB of one run."""
+def seconds_of(program, path):
+    """The status and the processor seconds of one run."""
     child = os.fork()
     if child == 0:
         os.dup2(os.open(path, os.O_RDONLY), 0)
@@ -140,7 +144,26 @@ def run(program, path):
         os.dup2(os.open(os.devnull, os.O_WRONLY), 2)
         os.execv(program, [program])
     _, status, usage = os.wait4(child, 0)
-    return os.waitstatus_to_exitcode(status), usage.ru_utime + usage.ru_stime, usage.ru_maxrss
+    return os.waitstatus_to_exitcode(status), usage.ru_utime + usage.ru_stime
+
+
+def peak(command, path, before=None):
+    """The status and the peak of memory in KB of one run, before which the child calls a function.
+
+    GNU time starts it, since the peak of a child of Python is at least Python's own.
+    """
+    quiet = ["sh", "-c", 'exec "$@" >/dev/null 2>&1', "sh", *command]
+    words = ["/usr/bin/time", "--quiet", "--format=%M", "--output=/dev/stdout", *quiet]
+    with open(path, "rb") as file:
+        done = subprocess.run(words, stdin=file, stdout=subprocess.PIPE, preexec_fn=before)
+    code = done.returncode if done.returncode < 128 else 128 - done.returncode
+    return code, int(done.stdout.split()[-1])
+
+
+def run(program, path):
+    """The status, the processor seconds and the peak of memory in KB of one run."""
+    status, seconds = seconds_of(program, path)
+    return status, seconds, peak([program], path)[1]
 
 
 def measured(program, path, text, count):

@@ -1,5 +1,5 @@
 #!/usr/bin/env python3
-"""Compares two formatters on 40 kinds of justfiles: ratio.py ORIGINAL FORMATTER FOLDER
+"""Compares two formatters on 44 kinds of justfiles: ratio.py ORIGINAL FORMATTER FOLDER
 
 Each is a path, or a command with arguments, of a program that reads a justfile as its standard input,
 formats it and writes it. ORIGINAL is a program around the Rust crate. Writes the texts into the folder,
@@ -19,7 +19,7 @@ import signal
 import subprocess
 import sys
 
-from hostile import LONG, PARTS, PLACES, REJECTED, REJECTED_TOKENS, ROWS
+from hostile import LONG, PARTS, PLACES, REJECTED, REJECTED_TOKENS, ROWS, peak
 from justfiles import bodies, deep, dense
 from realistic import justfile
 
@@ -59,6 +59,12 @@ def options(size):
     return "".join(f"[arg('p{n}', long)]\n" for n in numbers) + "a" + "".join(f" p{n}" for n in numbers) + ":\n"
 
 
+def repeated_option(size):
+    """A recipe with many parameters, half of which repeat the name of an option after the others."""
+    count = size // len(" q100000 p")
+    return "[arg('p', long)]\na" + "".join(f" q{n}" for n in range(count)) + " p" * count + ":\n"
+
+
 # Further parts that are repeated up to a size.
 OTHER_PARTS = {
     "imports": "import 'a'\n",
@@ -66,6 +72,9 @@ OTHER_PARTS = {
     "settings that are true": "set lists\n",
     "format strings": "a := f'b{{c}}d'\n",
     "parameters of recipes": "a b c='d' *e:\n",
+    "one parameter": "a b:\n",
+    "three parameters": "a b c d:\n",
+    "six parameters": "a b c d e f g:\n",
 }
 
 
@@ -83,6 +92,7 @@ def kinds():
     found["parameters and one option"] = of_names("[arg('p1', long)]\na", " p{}", ":\n")
     found["groups of one recipe"] = of_names("", "[group('g{}')]\n", "a:\n")
     found["options of one recipe"] = options
+    found["an option repeated"] = repeated_option
     return found
 
 
@@ -113,16 +123,9 @@ def seconds_of(command, path):
 
 
 def kilobytes_of(command, path):
-    """The peak of memory of one run in KB, or None if it takes too long.
-
-    GNU time starts it, since the peak of a child of Python is at least Python's own.
-    """
-    quiet = ["sh", "-c", 'exec "$@" >/dev/null 2>&1', "sh", *command]
-    words = ["/usr/bin/time", "--quiet", "--format=%M", "--output=/dev/stdout", *quiet]
-    with open(path, "rb") as file:
-        done = subprocess.run(words, stdin=file, stdout=subprocess.PIPE, preexec_fn=limited(MOST))
-    code = done.returncode if done.returncode < 128 else 128 - done.returncode
-    return int(done.stdout.split()[-1]) if ended(command, code) else None
+    """The peak of memory of one run in KB, or None if it takes too long."""
+    code, kilobytes = peak(command, path, limited(MOST))
+    return kilobytes if ended(command, code) else None
 
 
 def run(command, path):

@@ -3,10 +3,11 @@
 
 PROGRAM is justfile_server, built. Opens the texts of the rows of crates/justfile_rows that have no error and mention a
 defined name, and asks for COUNT renames (2,000 unless given) of a random name of a random text: to a fresh name, to a
-name of the text, to a keyword, to a mark before a string, or to what is no name. Each is refused with a reason, or
-else the text after it has no error, is renamed back to the old text, and has in the places of the old mentions those
-with the new name. To a fresh name it is refused only if an attribute `arg` names a parameter. Prints how many were done and how many refused, by the kind
-of the new name. Ends with 1 at the first that isn't as it should be.
+name of the text, to a constant, to a keyword, to a mark before a string, or to what is no name. Each is refused with a
+reason, or else the text after it has no error, is renamed back to the old text, and has in the places of the old
+mentions those with the new name. To a fresh name only those are refused of a variable that has a constant's name, and
+of a parameter that an attribute `arg` names by escapes. Prints how many were done and how many refused, by the kind of
+the new name. Ends with 1 at the first that isn't as it should be.
 """
 import glob
 import random
@@ -17,8 +18,11 @@ from collections import Counter
 from server import Server, check, edited, offset
 from survey import ROWS, unescaped
 
+CONSTANTS = ["HEX", "RED", "PATH_SEP"]
 KEYWORDS = ["if", "else", "assert", "set", "mod", "import", "alias", "export", "unexport", "eager"]
 MARKS = ["f", "x"]
+# An attribute `arg` whose literal has an escape.
+ESCAPED = re.compile(r'\barg\(\s*x?"[^"]*\\')
 NO_NAMES = ["", "1a", "a b", "a.b", "é", "a:=b", "-a"]
 
 
@@ -79,8 +83,9 @@ def written(text, places):
 
 def new_name(chance, names):
     """Returns a new name, and of what kind it is."""
-    kind = chance.choice(["fresh", "fresh", "of the text", "keyword", "mark", "no name"])
-    other = {"fresh": ["fresh_name"], "of the text": [name for name, _ in names], "keyword": KEYWORDS, "mark": MARKS, "no name": NO_NAMES}[kind]
+    kind = chance.choice(["fresh", "fresh", "of the text", "constant", "keyword", "mark", "no name"])
+    own = [name for name, _ in names]
+    other = {"fresh": ["fresh_name"], "of the text": own, "constant": CONSTANTS, "keyword": KEYWORDS, "mark": MARKS, "no name": NO_NAMES}[kind]
     return chance.choice(other), kind
 
 
@@ -132,7 +137,7 @@ def main():
             check(kind != "no name", f"{old} was renamed to {new!r}: {text!r}")
             done[kind] += 1
         else:
-            check(kind != "fresh" or new in text or re.search(r"\barg\b", text), f"{old} can't be renamed to {new}: {text!r}")
+            check(kind != "fresh" or new in text or old in CONSTANTS or ESCAPED.search(text), f"{old} can't be renamed to {new}: {text!r}")
             refused[kind] += 1
     check(editor.server.end() == 0, "the status isn't 0")
     for kind in sorted(done | refused):

@@ -1,6 +1,6 @@
--- Drives justfile_server from Neovim: server.sh runs it without a screen. Opens a justfile with an error, reads the
--- diagnostics and the symbols, types, formats, renames, completes, goes to a definition. Prints a line for each part,
--- and ends Neovim with status 1 if one is otherwise than it should be.
+-- Drives justfile_server from Neovim: server.sh runs it without a screen, with the lines of docs/EDITORS.md. A justfile
+-- with an error is open. Reads the diagnostics and the symbols, types, formats, renames, completes, goes to a
+-- definition. Prints a line for each part, and ends Neovim with status 1 if one is otherwise than it should be.
 local failed = false
 
 local function row(what, got, wanted)
@@ -28,8 +28,8 @@ local function soon(holds)
 end
 
 local function go()
-  local client = vim.lsp.start_client({ name = "justfile_server", cmd = { vim.env.SERVER }, root_dir = vim.fn.getcwd() })
-  vim.lsp.buf_attach_client(0, client)
+  row("the server is attached", soon(function() return next(vim.lsp.buf_get_clients(0)) ~= nil end), true)
+  local client = next(vim.lsp.buf_get_clients(0))
   row("a diagnostic of the error", soon(function() return #vim.diagnostic.get(0) == 1 end), true)
   local found = vim.diagnostic.get(0)[1] or {}
   row("its line", found.lnum, 0)

@@ -4,12 +4,13 @@
 Edits a justfile at random, by ranges, in both encodings. After each edit what the server says of it must be what it
 says of the whole text of a document that was just opened, and at the end what a new server says. The formatting edits
 must lead to a text that has no more edits. Before that it sends what is no message, and asks again, follows links to
-files that are there, asks what can be written at places of a justfile and what words and names mean, looks at what is
-told to be wrong with what justfiles say, and sets it right. Prints a line for each part, and ends with 1 at the first
-difference.
+files that are there, asks what can be written at places of a justfile, what is called there, what words and names
+mean, how tokens are shown and what can be run, looks at what is told to be wrong with what justfiles say, and sets it
+right. Prints a line for each part, and ends with 1 at the first difference.
 """
 import json
 import random
+import re
 import subprocess
 import sys
 import tempfile
@@ -169,6 +170,14 @@ CHOICES = [
     ("x := 'é' é\nnew: ", "", "", RECIPES),
     ("new: ", "\n)\n", "", RECIPES),
 ]
+DETAILED = """#  says é𝄞\t
+@hi a="it's: b" *$c='é' : tidy # d
+twice(a, b) := a + b
+alias h := hi # e"""
+DETAILS = [  # what is written after the texts above, and what is shown beside names that can be written there
+    ("new: ", {"build": "build mode=target-dir *flags", "tidy": "tidy", "b": ":= build", "hi": "hi a=\"it's: b\" *$c='é'", "h": ":= hi"}),
+    ("new := ", {"double": "double(n)", "twice": "twice(a, b)", "target-dir": "variable"}),
+]
 EXPLAINED = [
     # what is written up to a word, after the text above, the word, and what is written after it: a word of the language,
     # or nothing that is one
@@ -195,14 +204,99 @@ HIGHLIGHTED = [
     ("n", "n + n", [True, False, False]),
     ("no name", "quiet", []),
 ]
+RENAMED = [
+    # a justfile with a name between « and », a new name, and the justfile after that, or nothing if it is refused
+    ("[arg('«p»', long)]\nr p q='é𝄞':\n    echo {{ p }} p\n", "new", "[arg('new', long)]\nr new q='é𝄞':\n    echo {{ new }} p\n"),
+    ('# é𝄞\n[private, arg: "p", arg(x\'q\')] # é\nr «p» q:\n', "new", '# é𝄞\n[private, arg: "new", arg(x\'q\')] # é\nr new q:\n'),
+    ("[arg('p', help=q)]\n[arg(x'''q''')]\nr p «q»:\n", "new", "[arg('p', help=new)]\n[arg(x'''new''')]\nr p new:\n"),
+    ("[arg('p')]\nr p:\n\n[arg('p')]\ns «p»:\n", "new", "[arg('p')]\nr p:\n\n[arg('new')]\ns new:\n"),
+    ("[arg('p'), arg('«q»')]\nr p q:\n", "p", ""),
+    ('[arg("\\u{70}")]\nr «p»:\n', "new", ""),
+    ("[arg('p', short), arg('n', short='a')]\nr «p» n:\n", "a", ""),
+    ("«HEX» := HEX\n", "new", ""),
+    ("A := HEX\n«HEX» := 'é𝄞'\n", "new", ""),
+    ("x := 'a'\nr:\n    echo {{ «x» }}\n", "RED", ""),
+    ("RED := 'a'\nr «RED»:\n    echo {{ RED }}\n", "red", "RED := 'a'\nr red:\n    echo {{ red }}\n"),
+    ("r «p»:\n    echo {{ p + RED }}\n", "RED", ""),
+]
+SIGNATURES = [  # what is before the cursor, what is shown of what is called there, and the parameter of the argument
+    ("x := replace(", "replace(text, from, to)", "text"),
+    ("x := replace('a', ", "replace(text, from, to)", "from"),
+    ("x := replace('a', 'b", "replace(text, from, to)", "from"),
+    ("x := replace('a, b', \"c, d\", 'e' + ", "replace(text, from, to)", "to"),
+    ("x := replace(env('a', 'b'), ", "replace(text, from, to)", "from"),
+    ("x := replace(env('a', ", "env(name, default?)", "default?"),
+    ("x := env('a', 'b', ", "env(name, default?)", "default?"),
+    ("x := if 'a' == env(", "env(name, default?)", "name"),
+    ("x := just_pid(", "just_pid()", None),
+    ("x := double(", "double(n)", "n"),
+    ("export x := 'é𝄞' + double(", "double(n)", "n"),
+    ("x := f'{{ double(", "double(n)", "n"),
+    ("r:\n    echo {{ replace(x, ", "replace(text, from, to)", "from"),
+    ("r p=double(", "double(n)", "n"),
+    ("r: (build ", "build mode flags", "mode"),
+    ("r: (build 'a'+", "build mode flags", "mode"),
+    ("r: (build 'a' + 'b' ", "build mode flags", "flags"),
+    ("r: (build 'a' 'b' 'c' ", "build mode flags", "flags"),
+    ("r: (build 'a' 'b, c", "build mode flags", "flags"),
+    ("r: (build x'a' ", "build mode flags", "flags"),
+    ("r: (build double('a') ", "build mode flags", "flags"),
+    ("r: (build (if 'a' == 'b' { 'c' } else { 'd' }) ", "build mode flags", "flags"),
+    ("r: (build if 'a' == 'b' { 'c' } else { 'd' } ", "build mode flags", "flags"),
+    ("r: (build double(", "double(n)", "n"),
+    ("r: b && (tidy ", "tidy", None),
+    ("r: (unknown ", None, None),
+    ("r: (", None, None),
+    ("x := unknown(", None, None),
+    ("x := (", None, None),
+    ("x := double('a') + ", None, None),
+    ("f(a, ", None, None),
+    ("[group(", None, None),
+    ("# replace(", None, None),
+    ("r:\n    replace(", None, None),
+]
+RUNS = """set windows-shell := ['a']
+plain:
+defaulted a='b' *c: plain
+required a: plain
+several +a:
+[private]
+hidden: (required 'a')
+[windows]
+elsewhere:
+[linux]
+here:
+[arg('o', long)]
+option o:
+e := 'é𝄞'
+"""
+RUNNABLE = ["plain", "defaulted", "hidden", "here"]
 FIXES = [
     # a text with a place between « and », and the title of what sets right what is wrong there, if something does
     ("# é𝄞\nx «=» 'é𝄞'\n", "Replace `=` with `:=`"),
+    ("\ufeffx-1 \t«=» 'é𝄞'\n", "Replace `=` with `:=`"),
+    ("y y\nx«=»'é𝄞'\n", "Replace `=` with `:=`"),
     ("twice(value) «=» value + value\n", "Replace `=` with `:=`"),
     ("x y = «=» z\n", ""),
+    ("x «==» 'a'\n", ""),
+    ("x := 'a'\n  «=» 'b'\n", ""),
+    ("build: «clean»\n", "Create the recipe `clean`"),
+    ("build:\n    echo\n\nalias «b» := all-all", "Create the recipe `all-all`"),
+    ("mod m\nbuild: «m»\n", ""),
     ("x := 'a' «=» 'b'\n", ""),
     ("x := «[»'a', 'b']\n", "Add `set lists`"),
+    ("\ufeffx := «[»'a', 'b']\n", "Add `set lists`"),
+    ("#!/usr/bin/env just\nx := «[»'a', 'b']\n", "Add `set lists`"),
+    ("\ufeff#!/usr/bin/env just\r\n\nx := «[»'a', 'b']\n", "Add `set lists`"),
     ("x := «unknown_name»\n", ""),
+]
+COLORS = [
+    # a text, and its tokens that are shown, each with its type
+    ("# é𝄞\n\n# a\n\n[private]\na b: # c\n    # d\n    echo {{b}} # e\n\n# f\n", ["# é𝄞:comment", "# a:comment", "private:property", "a:function", "b:parameter", "# c:comment", "b:parameter", "# f:comment"]),
+    ("z := 'é𝄞' + # a\n# b\n\n# c\ny := z\n", [":=:operator", "'é𝄞':string", "+:operator", "# a:comment", "# b:comment", "# c:comment", "y:variable", ":=:operator", "z:variable"]),
+    ("a b if 'é𝄞' + 'd' # e\nc: d\n# f", ["if:keyword", "'é𝄞':string", "+:operator", "'d':string", "# e:comment", "c:function", "d:function", "# f:comment"]),
+    ("a := 'b' + ('c' # d\n\n# e\nc := 'f'\n", [":=:operator", "'b':string", "+:operator", "'c':string", "# d:comment", "# e:comment", "c:variable", ":=:operator", "'f':string"]),
+    ("# a\nb := 'c' + `é𝄞 # d\nc := 'e'\n", ["# a:comment", ":=:operator", "'c':string", "+:operator", "c:variable", ":=:operator", "'e':string"]),
 ]
 FINDINGS = [
     # a justfile, the places of a finding between « and », and of what it is about between ‹ and ›; its code, its message,
@@ -267,7 +361,8 @@ class Server:
         self.process = subprocess.Popen([program], stdin=subprocess.PIPE, stdout=subprocess.PIPE)
         self.count = 0
         found = self.ask("initialize", {"capabilities": {"general": {"positionEncodings": [encoding]}}})
-        said = found["result"]["capabilities"]["positionEncoding"]
+        self.abilities = found["result"]["capabilities"]
+        said = self.abilities["positionEncoding"]
         check(said == encoding, f"the server counts in {said}")
         self.tell("initialized", {})
 
@@ -579,6 +674,25 @@ def complete(program, encoding):
             check(not lacking, f"{at} {lacking} can't be written, but: {labels}")
             others = (PARAMETERS.difference(wanted) | RECIPES | ITEMS) & set(labels)
             check(not others, f"{at} {others} can be written")
+    for before, wanted in DETAILS:
+        text = f"{NAMED}{DETAILED}\n{before}"
+        server.change(DOCUMENT, [{"text": text}])
+        found = server.ask("textDocument/completion", {"textDocument": {"uri": DOCUMENT}, "position": position(text, len(text), encoding)})["result"]
+        details = {item["label"]: item.get("detail") for item in found["items"]}
+        check(wanted.items() <= details.items(), f"beside names is shown {details}")
+        said = [(item["label"], item["documentation"]) for item in found["items"] if item["label"] in RECIPES | {"hi", "h"} and "documentation" in item]
+        check(said == ([("hi", "says é𝄞")] if "hi" in wanted else []), f"of recipes is said {said}")
+    many = "".join(f"v{at} := ''\n" for at in range(300)) + "x := v2"
+    server.change(DOCUMENT, [{"text": many}])
+    found = server.ask("textDocument/completion", {"textDocument": {"uri": DOCUMENT}, "position": position(many, len(many), encoding)})["result"]
+    labels = [item["label"] for item in found["items"]]
+    check(found["isIncomplete"] and labels == sorted(f"v{at}" for at in range(300) if f"v{at}".startswith("v2")), f"of many can be written: {labels}")
+    word = {"start": position(many, len(many) - 2, encoding), "end": position(many, len(many), encoding)}
+    check(all(item["textEdit"]["range"] == word for item in found["items"]), "of many another word would be replaced")
+    many = many.removesuffix("v2")
+    server.change(DOCUMENT, [{"text": many}])
+    found = server.ask("textDocument/completion", {"textDocument": {"uri": DOCUMENT}, "position": position(many, len(many), encoding)})["result"]
+    check(found["isIncomplete"] and len(found["items"]) == 200, f"{len(found['items'])} of many can be written")
     check(server.end() == 0, "the status isn't 0")
     print(f"{encoding}: what can be written at {len(CHOICES)} places")
 
@@ -615,6 +729,51 @@ def explain(program, encoding):
         check([it["kind"] == 3 for it in found] == wanted, f"highlights of {name!r} are {found}")
     check(server.end() == 0, "the status isn't 0")
     print(f"{encoding}: what is said of {len(EXPLAINED)} words and 3 names, and {len(HIGHLIGHTED)} names highlighted")
+
+
+def rename(program, encoding):
+    """Replaces names of justfiles, from each of the places where they are mentioned."""
+    server = Server(program, encoding)
+    server.open(DOCUMENT, "")
+    for text, new, wanted in RENAMED:
+        plain, place = marked(text, encoding)
+        server.change(DOCUMENT, [{"text": plain}])
+        about = {"textDocument": {"uri": DOCUMENT}, "position": place["start"]}
+        found = server.ask("textDocument/references", dict(about, context={"includeDeclaration": True}))["result"]
+        check(place in [it["range"] for it in found], f"{text!r} has the name at {found}")
+        for it in found:
+            answer = server.ask("textDocument/rename", dict(about, position=it["range"]["start"], newName=new))
+            after = edited(plain, answer["result"]["changes"][DOCUMENT], encoding) if "result" in answer else ""
+            check(after == wanted, f"{text!r} with {new!r} is {after!r}: {answer}")
+    check(server.end() == 0, "the status isn't 0")
+    print(f"{encoding}: names of {len(RENAMED)} justfiles are replaced as they should")
+
+
+def call_and_run(program, encoding):
+    """Asks what is called at places of a justfile, and what can be run in one."""
+    server = Server(program, encoding)
+    server.open(DOCUMENT, NAMED)
+    for before, label, parameter in SIGNATURES:
+        for after in ("", ")", "\nz := 'a'\n"):
+            text = NAMED + before + after
+            server.change(DOCUMENT, [{"text": text}])
+            params = {"textDocument": {"uri": DOCUMENT}, "position": position(text, len(NAMED + before), encoding)}
+            found = server.ask("textDocument/signatureHelp", params)["result"]
+            said = (None, None)
+            if found:
+                (one,) = found["signatures"]
+                parts = [one["label"][slice(*it["label"])] for it in one["parameters"]]
+                said = (one["label"], parts[found["activeParameter"]] if parts else None)
+            check(said == (label, parameter), f"after {before!r} {said} is called")
+    text = RUNS
+    server.change(DOCUMENT, [{"text": text}])
+    found = server.ask("textDocument/codeLens", {"textDocument": {"uri": DOCUMENT}})["result"]
+    names = [text[offset(text, it["range"]["start"], encoding):offset(text, it["range"]["end"], encoding)] for it in found]
+    check(names == RUNNABLE, f"{names} can be run")
+    wanted = [{"title": "Run", "command": "just.run", "arguments": [name]} for name in names]
+    check([it["command"] for it in found] == wanted, f"the commands are {found}")
+    check(server.end() == 0, "the status isn't 0")
+    print(f"{encoding}: what is called at {len(SIGNATURES)} places, and {len(RUNNABLE)} recipes that can be run")
 
 
 def marked(text, encoding):
@@ -694,20 +853,45 @@ def set_right(program, encoding):
     named = [(text, f"Replace `{message.split('`')[-4]}` with `{message.split('`')[-2]}`") for text, _, message, _ in FINDINGS if "Did you mean" in message and text.count("«") == 1]
     for text, title in named + FIXES:
         plain, place = marked(text, encoding)[:2]
-        server.change(DOCUMENT, [{"text": plain}])
+        told = server.change(DOCUMENT, [{"text": plain}])
         actions = server.ask("textDocument/codeAction", {"textDocument": {"uri": DOCUMENT}, "range": place, "context": {"diagnostics": []}})["result"]
         wanted = [title] if title else []
+        if "Did you mean" in told[0]["message"] and told[0]["code"] in ("UnknownDependency", "UnknownAliasTarget"):
+            wanted.append(f"Create the recipe `{title.split('`')[1]}`")
         check([(action["title"], action["kind"]) for action in actions] == [(it, "quickfix") for it in wanted], f"of {plain!r} {actions} sets it right")
         for action in actions:
             after = edited(plain, action["edit"]["changes"][DOCUMENT], encoding)
+            kept = re.match("\ufeff?(#!.*\n)?", plain)[0]
+            check(action["title"] != "Add `set lists`" or after == f"{kept}set lists\n{plain[len(kept):]}", f"{plain!r} becomes {after!r}")
+            if action["title"].startswith("Create"):
+                added = f"\n{action['title'].split('`')[1]}:\n"
+                check(after == plain.removesuffix("\n") + "\n" + added, f"{plain!r} becomes {after!r}")
             left = server.change(DOCUMENT, [{"text": after}])
             check(not any("Did you mean" in told["message"] or told["range"] == place for told in left), f"{action} of {plain!r} leaves {left}")
-    far = {"start": {"line": 9, "character": 0}, "end": {"line": 9, "character": 0}}
-    server.change(DOCUMENT, [{"text": "target := ''\nx := targt\n" + "#\n" * 9}])
-    actions = server.ask("textDocument/codeAction", {"textDocument": {"uri": DOCUMENT}, "range": far, "context": {"diagnostics": []}})["result"]
-    check(actions == [], f"far away {actions} is set right")
+    for text in ("target := ''\nx := targt\n" + "#\n" * 9, "x := ['a']\n)\n", "a: b\nx y\n", "x := targt\ntarget := 1\n"):
+        server.change(DOCUMENT, [{"text": text}])
+        far = {"line": 9, "character": 0} if "#" in text else {"line": 0, "character": 6}
+        actions = server.ask("textDocument/codeAction", {"textDocument": {"uri": DOCUMENT}, "range": {"start": far, "end": far}, "context": {"diagnostics": []}})["result"]
+        check(actions == [], f"where nothing is told of {text!r} {actions} is set right")
     check(server.end() == 0, "the status isn't 0")
     print(f"{encoding}: {len(named) + len(FIXES)} texts are set right as they should")
+
+
+def color(program, encoding):
+    """Asks how the tokens of justfiles are shown, right ones and others."""
+    server = Server(program, encoding)
+    types = server.abilities["semanticTokensProvider"]["legend"]["tokenTypes"]
+    for text, wanted in COLORS:
+        server.open(DOCUMENT, text)
+        numbers = server.ask("textDocument/semanticTokens/full", {"textDocument": {"uri": DOCUMENT}})["result"]["data"]
+        shown, line, column = [], 0, 0
+        for down, right, size, kind, _ in zip(*[iter(numbers)] * 5):
+            line, column = line + down, right if down else column + right
+            ends = (offset(text, {"line": line, "character": at}, encoding) for at in (column, column + size))
+            shown.append((text[slice(*ends)], types[kind]))
+        check(shown == [tuple(pair.rsplit(":", 1)) for pair in wanted], f"{text!r} is shown as {shown}")
+    check(server.end() == 0, "the status isn't 0")
+    print(f"{encoding}: {len(COLORS)} texts are shown in colours")
 
 
 def main():
@@ -720,8 +904,11 @@ def main():
     for encoding in ("utf-8", "utf-16"):
         complete(program, encoding)
         explain(program, encoding)
+        rename(program, encoding)
+        call_and_run(program, encoding)
         tell_findings(program, encoding)
         set_right(program, encoding)
+        color(program, encoding)
         edit_at_random(program, encoding, edits // 2, chance)
 
 

@@ -1,10 +1,11 @@
 #!/bin/sh
 # Tries the built program justfile_server: server.sh [PROGRAM [EDITS]]
 #
-# Edits a justfile at random and compares what the server says with what a new one says of the whole text, sends what
-# is no message (server.py), breaks texts and types into long ones (parts.py), renames at random (renames.py), and then
-# drives Neovim without a screen (server.lua) and Emacs with eglot (server.el), where they are. Prints a row for each part. Ends with 1 if one ended otherwise than it
-# should.
+# Edits a justfile at random and compares what the server says with what a new one says of the whole text, and sends
+# what is no message (server.py); asks about long texts (answers.py), breaks texts and types into long ones (parts.py),
+# renames at random (renames.py). Then drives Neovim without a screen, with the lines that docs/EDITORS.md has for it
+# (server.lua), and Emacs with eglot (server.el), where they are. Prints a row for each part. Ends with 1 if one ended
+# otherwise than it should.
 set -u
 top=$(cd "$(dirname "$0")/.." && pwd)
 program=${1:-$top/crates/justfile_server/out/justfile_server}
@@ -20,12 +21,15 @@ for words in '--help:A server' '-h:A server' '--version:justfile_server, commit 
     esac
 done
 python3 "$top/bench/server.py" "$program" "${2:-1000}" || status=1
+python3 "$top/bench/answers.py" "$program" || status=1
 python3 "$top/bench/parts.py" "$program" || status=1
 python3 "$top/bench/renames.py" "$program" || status=1
 printf 'e:="é𝄞\nbuild: clean\n  echo {{e}}\nclean:\n  rm -rf out\n' > "$work/justfile"
 if command -v nvim > /dev/null; then
-    (cd "$work" && SERVER=$program timeout 120 nvim --headless --clean justfile -c "luafile $top/bench/server.lua") \
-        || status=1
+    sed -n '/^```lua$/,/^```$/p' "$top/docs/EDITORS.md" | sed '/^```/d' > "$work/init.lua"
+    mkdir "$work/bin" && ln -s "$program" "$work/bin/justfile_server"
+    (cd "$work" && PATH=$work/bin:$PATH HOME=$work timeout 120 \
+        nvim --headless -i NONE -u init.lua justfile -c "luafile $top/bench/server.lua") || status=1
 else
     echo "no nvim: Neovim isn't tried"
 fi

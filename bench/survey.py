@@ -1,7 +1,7 @@
 #!/usr/bin/env python3
 """Surveys texts that are broken: survey.py PROGRAM RECIPES [COUNT]
 
-PROGRAM is crates/caller_rows, built, which surveys the texts of rows with the word `surveys`, and RECIPES
+PROGRAM is crates/justfile_rows, built, which surveys the texts of rows with the word `surveys`, and RECIPES
 crates/recipes, which tells whether a text is a justfile.
 Breaks COUNT texts (2,000 unless given) of the rows of
 crates/justfile_rows that are justfiles with at least two named items: by a byte that is taken out or
@@ -109,17 +109,19 @@ def unescaped(field):
     return re.sub(r"\\(?:u\{([0-9a-f]+)\}|(.))", lambda m: chr(int(m[1], 16)) if m[1] else known.get(m[2], m[0]), field)
 
 
+def texts_in(paths):
+    """The texts of files of rows, each once, without those that repeat a part."""
+    found = {}
+    for path in paths:
+        with open(path, encoding="utf-8", newline="") as rows:
+            found.update((unescaped(field), True) for field in re.findall(r"«([^»]*)»", rows.read()))
+    return [text for text in found if text is not None]
+
+
 def texts_of_rows():
     """The texts of the rows that have a line feed, each once."""
-    found = {}
-    for path in sorted(glob.glob(ROWS)):
-        if "long" in path or "wrong" in path:
-            continue
-        for field in re.findall(r"«([^»]*)»", open(path, encoding="utf-8").read()):
-            text = unescaped(field)
-            if text and "\n" in text and len(text) < 2000 and text.isascii():
-                found[text] = True
-    return list(found)
+    paths = [path for path in sorted(glob.glob(ROWS)) if "long" not in path and "wrong" not in path]
+    return [text for text in texts_in(paths) if "\n" in text and len(text) < 2000 and text.isascii()]
 
 
 def broken(text, chance):
