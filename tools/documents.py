@@ -37,7 +37,7 @@ import uncited  # noqa: E402
 from figures import NAMES, TOP, halves  # noqa: E402
 
 LONGEST = {"line": 120, "row of a table": 400}
-MOST_WORDS = 26_000
+MOST_WORDS = 26_400
 
 # Names in backticks that the repository's code doesn't have, each group with its reason.
 EXCEPTIONS = {
@@ -164,7 +164,7 @@ def crate_before(line, section):
 def known(crate):
     """The words that a name with this crate may have. Those of justfiles and the names of laws stand in any section."""
     if crate == "tests":
-        return set(NAMES).union(tests(), *map(words, ("text_rows", "justfile_rows", "caller_rows", "justfile_syntax")))
+        return set(NAMES).union(tests(), *map(words, ("text_rows", "justfile_rows", "justfile_syntax")))
     if crate.endswith("/specs"):
         return words(crate) | set(NAMES)
     elsewhere = ELSEWHERE[None] | ELSEWHERE.get(crate, set())

@@ -37,7 +37,7 @@ def unescaped(text):
 
 def of_rows():
     """The inputs of the rows of justfmt."""
-    rows = (TOP / "crates/caller_rows/data/program.rows").read_text()
+    rows = (TOP / "crates/justfile_rows/data/program.rows").read_text()
     for word, fields in re.findall(r"^(formats|run)\b(.*(?:\n[ \t].*)*)", rows, re.M):
         texts = re.findall(r"«([^«»]*)»|(\S+)", fields)
         field = texts[0] if word == "formats" else texts[1]

@@ -116,7 +116,7 @@ def cited(source, calls):
     text = (CRATES / source).read_text()
     names, aliases = imports(text, "ghost use ")
     for call in calls:
-        start = re.search(rf'\n\s*(?:pub )?(?:extern "C" )?fn {call}\b', text).end()
+        start = re.search(rf'\n\s*(?:pub(?:\(crate\))? )?(?:extern "C" )?fn {call}\b', text).end()
         clauses = text[start : start + re.search(r"\n\s*\{\n", text[start:]).start()]
         for word in set(WORD.findall(clauses)):
             yield imported(names, {}, word)
@@ -159,6 +159,21 @@ GROUPS = [
         ("justfile_problems/src/circular.rt", ["circles_of", "error"]),
         ("justfile_problems/src/listing.rt", ["problems"]),
         ("justfile_problems/src/error.rt", ["error"]),
+    ],
+    [
+        ("justfile_problem_lines/src/files.rt", ["lines_of_files"]),
+        ("justfiles/src/linted.rt", ["lines_of", "paths_in"]),
+    ],
+    [("editor_server/src/server.rt", ["react"]), ("editor_server/src/stream.rt", ["serve"])],
+    [
+        ("justfile_analysis/src/analysis.rt", ["analysis_of"]),
+        ("justfile_server/src/findings.rt", ["findings_of"]),
+        ("justfile_server/src/fixes.rt", ["fixes_of"]),
+        ("justfile_server/src/mentions.rt", ["mentions_of"]),
+        ("justfile_server/src/links.rt", ["links_of"]),
+        ("justfile_server/src/choices.rt", ["choices_at"]),
+        ("justfile_server/src/runs.rt", ["runs_of"]),
+        ("justfile_signatures/src/signature.rt", ["signature_at"]),
     ],
 ]
 
