@@ -37,7 +37,7 @@ import uncited  # noqa: E402
 from figures import NAMES, TOP, halves  # noqa: E402
 
 LONGEST = {"line": 120, "row of a table": 400}
-MOST_WORDS = 26_400
+MOST_WORDS = 26_320
 
 # Names in backticks that the repository's code doesn't have, each group with its reason.
 EXCEPTIONS = {
