@@ -20,35 +20,15 @@ impl<'src> Setting<'src> {
         ensures { IsResolvedSetting (number_of context.entry bindings.now) self.new self.old }
     {
         match self {
-            Setting::AllowDuplicateRecipes(_) => {}
-            Setting::AllowDuplicateVariables(_) => {}
-            Setting::DefaultList(_) => {}
-            Setting::DefaultScript(_) => {}
             Setting::DotenvCommand(value) => value.resolve_variables(context, bindings),
             Setting::DotenvFilename(value) => value.resolve_variables(context, bindings),
-            Setting::DotenvLoad(_) => {}
-            Setting::DotenvOverride(_) => {}
             Setting::DotenvPath(value) => value.resolve_variables(context, bindings),
-            Setting::DotenvRequired(_) => {}
-            Setting::Export(_) => {}
-            Setting::Fallback(_) => {}
-            Setting::Guards(_) => {}
-            Setting::IgnoreComments(_) => {}
-            Setting::Indentation(_, _) => {}
-            Setting::Lazy(_) => {}
-            Setting::Lists(_) => {}
-            Setting::MinimumVersion(_) => {}
-            Setting::NoCd(_) => {}
-            Setting::NoExitMessage(_) => {}
-            Setting::PositionalArguments(_) => {}
-            Setting::Quiet(_) => {}
             Setting::ScriptInterpreter(value) => resolve_interpreter(value, context, bindings),
             Setting::Shell(value) => resolve_interpreter(value, context, bindings),
             Setting::Tempdir(value) => value.resolve_variables(context, bindings),
-            Setting::Unstable(_) => {}
-            Setting::WindowsPowerShell(_) => {}
             Setting::WindowsShell(value) => resolve_interpreter(value, context, bindings),
             Setting::WorkingDirectory(value) => value.resolve_variables(context, bindings),
+            _ => {}
         }
     }
 }
