@@ -39,15 +39,13 @@ use Rattle.justfile_literal.specs.Literal.{IsPartOf}
 use Rattle.justfile_recipe_header.specs.Header.{argument_cooked, dependency_argument_of, dependency_cooked, dependency_of, default_cooked, parameter_cooked, parameter_of}
 use Rattle.justfile_recipe_header.specs.declared.parameter.Parameter.{Parameter}
 use Rattle.justfile_recipe_header.specs.declared.unresolved_dependency.UnresolvedDependency.{UnresolvedDependency}
-use Rattle.justfile_setting.specs.Setting.{interpreter_cooked, setting_cooked, value_of}
-use Rattle.justfile_setting.specs.declared.setting.Setting as values
-use Rattle.justfile_setting.specs.declared.setting.Setting.TheVariants as settings
+use Rattle.justfile_setting.specs.Setting.{Content, ExpressionContent, IndentationContent, InterpreterContent, PlainContent, TruthContent, content_by, content_cooked, content_of, interpreter_cooked}
 use Rattle.justfile_item.specs.Attributes.{attribute_cooked, attributes_cooked, boxed_cooked, form_cooked, literal_cooked, optional, option_cooked, property_cooked}
 use Rattle.justfile_item.specs.Item.{header_cooked, header_of, item_of, item_cooked, priors_of, quoted_of, subsequents_of}
 use Rattle.justfile_item.specs.declared.item.Item.{Item}
 use Rattle.justfile_item.specs.declared.item.Item.TheVariants.{Alias, Assignment, Comment, Function, Import, Module, Newline, Recipe, Setting, Unexport}
 use Rattle.justfile_item.specs.declared.recipe.UnresolvedRecipe.{UnresolvedRecipe}
-use Rattle.justfile_parse_docs.specs.ParsedItems.{AreFilledAttributes, AreFilledExpressions, AreFilledParts, IsFilledArgument, IsFilledAttribute, IsFilledBoxed, IsFilledCommandLine, IsFilledCount, IsFilledDependency, IsFilledExpression, IsFilledForm, IsFilledFragment, IsFilledInterpreter, IsFilledItem, IsFilledLine, IsFilledLiteral, IsFilledName, IsFilledNumbered, IsFilledOption, IsFilledOptional, IsFilledParameter, IsFilledPart, IsFilledProperty, IsFilledRecipe, IsFilledSetting, first_part, later_part}
+use Rattle.justfile_parse_docs.specs.ParsedItems.{AreFilledAttributes, AreFilledExpressions, AreFilledParts, IsFilledArgument, IsFilledAttribute, IsFilledBoxed, IsFilledCommandLine, IsFilledContent, IsFilledCount, IsFilledDependency, IsFilledExpression, IsFilledForm, IsFilledFragment, IsFilledInterpreter, IsFilledItem, IsFilledLine, IsFilledLiteral, IsFilledName, IsFilledNumbered, IsFilledOption, IsFilledOptional, IsFilledParameter, IsFilledPart, IsFilledProperty, IsFilledRecipe, first_part, later_part}
 
 -- ---- where more tokens are allowed
 
@@ -145,18 +143,12 @@ module _ (expander : Expansions) (P Q : Token → Type 0) (weaker : (t : Token) 
   given_command i h =
       (given_expression i.command h.0, All-weaker (IsFilledExpression expander P) (IsFilledExpression expander Q) given_expression i.arguments.items h.1)
 
-  given_setting : (s : values.Setting) → IsFilledSetting expander P s → IsFilledSetting expander Q s
-  given_setting (settings.DotenvCommand value) h = given_expression value h
-  given_setting (settings.DotenvFilename value) h = given_expression value h
-  given_setting (settings.DotenvPath value) h = given_expression value h
-  given_setting (settings.Indentation literal indentation) h = (given_literal literal h.0, h.1)
-  given_setting (settings.MinimumVersion literal) h = given_literal literal h
-  given_setting (settings.ScriptInterpreter i) h = given_command i h
-  given_setting (settings.Shell i) h = given_command i h
-  given_setting (settings.Tempdir value) h = given_expression value h
-  given_setting (settings.WindowsShell i) h = given_command i h
-  given_setting (settings.WorkingDirectory value) h = given_expression value h
-  given_setting _ h = tt
+  given_content : (c : Content) → IsFilledContent expander P c → IsFilledContent expander Q c
+  given_content (TruthContent value) h = tt
+  given_content (ExpressionContent value) h = given_expression value h
+  given_content (InterpreterContent i) h = given_command i h
+  given_content (PlainContent literal) h = given_literal literal h
+  given_content (IndentationContent literal indentation) h = (given_literal literal h.0, h.1)
 
   given_fragment : (f : Fragment) → IsFilledFragment expander P f → IsFilledFragment expander Q f
   given_fragment (fragments.Interpolation e) h = given_expression e h
@@ -218,7 +210,7 @@ module _ (expander : Expansions) (P Q : Token → Type 0) (weaker : (t : Token) 
         attributes = given_set r.attributes h.attributes;
       }
   given_weaker file_depth import_offsets (Setting s) h =
-      record { among = weaker s.name.token h.among; value = given_setting s.value h.value; attributes = given_set s.attributes h.attributes }
+      record { among = weaker s.name.token h.among; value = given_content (content_of s.value) h.value; attributes = given_set s.attributes h.attributes }
   given_weaker file_depth import_offsets (Unexport set name) h = record { among = weaker name.token h.among; attributes_are = given_set set h.attributes_are }
 
 -- ---- the texts of literals
@@ -383,18 +375,12 @@ module _ (expander : Expansions) (P : Token → Type 0) where
       → Cook (expr_literals (expr_of i.command) ++ exprs_literals (exprs_of i.arguments.items)) (interpreter_cooked i)
   command_cooks i h = joined (expression_cooks i.command h.0) (expressions_cook i.arguments.items h.1)
 
-  setting_cooks : (s : values.Setting) → IsFilledSetting expander P s → Cook (setting_literals (value_of s)) (setting_cooked s)
-  setting_cooks (settings.DotenvCommand value) h = expression_cooks value h
-  setting_cooks (settings.DotenvFilename value) h = expression_cooks value h
-  setting_cooks (settings.DotenvPath value) h = expression_cooks value h
-  setting_cooks (settings.Indentation literal indentation) h = literal_cooks literal h.0
-  setting_cooks (settings.MinimumVersion literal) h = literal_cooks literal h
-  setting_cooks (settings.ScriptInterpreter i) h = command_cooks i h
-  setting_cooks (settings.Shell i) h = command_cooks i h
-  setting_cooks (settings.Tempdir value) h = expression_cooks value h
-  setting_cooks (settings.WindowsShell i) h = command_cooks i h
-  setting_cooks (settings.WorkingDirectory value) h = expression_cooks value h
-  setting_cooks _ h = none_cook
+  content_cooks : (c : Content) → IsFilledContent expander P c → Cook (setting_literals (content_by expr_of exprs_of literal_tok c)) (content_cooked c)
+  content_cooks (TruthContent value) h = none_cook
+  content_cooks (ExpressionContent value) h = expression_cooks value h
+  content_cooks (InterpreterContent i) h = command_cooks i h
+  content_cooks (PlainContent literal) h = literal_cooks literal h
+  content_cooks (IndentationContent literal indentation) h = literal_cooks literal h.0
 
   fragments_cook : (fs : List Fragment) → All (IsFilledFragment expander P) fs → Cook (fragments_literals (map fragment_of fs)) (flat_map fragment_cooked fs)
   fragments_cook [] all = none_cook
@@ -441,7 +427,7 @@ module _ (expander : Expansions) (P : Token → Type 0) where
   item_cooks file_depth import_offsets (Recipe r) h =
       subst (Cook (item_literals entries_literals (item_of (Recipe r)))) (sym (append_assoc (attributes_cooked r.attributes) (header_cooked r) (flat_map line_cooked r.body.items)))
       (joined (set_cooks r.attributes h.attributes) (joined (header_cooks r h) (lines_cook r.body.items h.body)))
-  item_cooks file_depth import_offsets (Setting s) h = joined (set_cooks s.attributes h.attributes) (setting_cooks s.value h.value)
+  item_cooks file_depth import_offsets (Setting s) h = joined (set_cooks s.attributes h.attributes) (content_cooks (content_of s.value) h.value)
   item_cooks file_depth import_offsets (Unexport set name) h = bare (set_cooks set h.attributes_are)
 
   -- the texts of the items' literals are theirs

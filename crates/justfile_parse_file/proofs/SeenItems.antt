@@ -23,14 +23,14 @@ use Rattle.justfile_vocabulary.specs.declared.list_feature.ListFeature.{ListFeat
 use Rattle.justfile_model.proofs.Readers.Counters.{count, parameters_recipes, after_parameters}
 use Rattle.justfile_model.proofs.Relations.Related as a
 use Rattle.justfile_model.proofs.Relations.Related.{AlikeItem, Each, Alike, AlikeDependency, AlikeDependencyArgument, AlikeOption, AlikeParameter, AlikeParameters, absent, present, AlikeAll, AlikeNames, AlikeQuoted, AlikeValue}
-use Rattle.justfile_setting.specs.Setting.{keyword_of, HasDerivedSettingFields, expression_by, interpreter_by, literal_by, value_of}
+use Rattle.justfile_setting.specs.Setting.{Content, ExpressionContent, HasDerivedContent, IndentationContent, InterpreterContent, PlainContent, TruthContent, content_by, content_of, expression_by, interpreter_by, keyword_of, literal_by}
 use Rattle.justfile_expression.specs.LeafTree.{Assigned, AssignmentName, Headed, Leaf, RecipeName, Named, leaf_tree_of, Literal, literal_of, trees_of}
 use Rattle.justfile_attribute.specs.New.{HasDerivedAttributeFields}
 use Rattle.justfile_attribute_set.specs.AttributeSet as sets
 use Rattle.justfile_attribute_set.specs.AttributeSet.{AttributeSet, written_of}
 use Rattle.justfile_attribute_set.specs.Keys.{firsts}
 use Rattle.justfile_attribute_set.specs.Pairs.{Pair}
-use Rattle.justfile_parse_docs.specs.ParsedItems.{AreFilledAttributes, IsFilledAttribute, IsFilledItem, IsFilledLine, IsFilledArgument, IsFilledDependency, IsFilledExpression, IsFilledName, IsFilledParameter, IsFilledCommandLine, IsFilledLiteral, IsFilledNumbered, IsFilledPath, IsFilledSetting}
+use Rattle.justfile_parse_docs.specs.ParsedItems.{AreFilledAttributes, IsFilledAttribute, IsFilledItem, IsFilledLine, IsFilledArgument, IsFilledDependency, IsFilledExpression, IsFilledName, IsFilledParameter, IsFilledCommandLine, IsFilledContent, IsFilledLiteral, IsFilledNumbered, IsFilledPath}
 use Rattle.justfile_parse_expression.specs.TableReader.{assigned_leaf, headed_leaf}
 use Rattle.justfile_parse_docs.specs.ParsedItems.{assignment_name, item_tree, numbered_leaf, recipe_name}
 use Rattle.justfile_parse_item_parts.specs.BodyTrees.{line_tree}
@@ -56,9 +56,7 @@ use Rattle.justfile_expression.specs.Expression.{expr_of, exprs_of, literal_tok}
 use Rattle.justfile_expression.specs.declared.expression.Expression.{Expression}
 use Rattle.justfile_attribute.specs.declared.interpreter.Interpreter.{Interpreter}
 use Rattle.justfile_token.specs.declared.string_literal.StringLiteral as strings
-use Rattle.justfile_setting.specs.LeafSetting.{leaf_value_of}
 use Rattle.justfile_setting.specs.declared.setting.Setting.{Setting}
-use Rattle.justfile_setting.specs.declared.setting.Setting.TheVariants as settings
 use Rattle.justfile_attribute_rules.specs.Made.{quoted_leaf}
 
 -- an item without its doc
@@ -231,23 +229,17 @@ module _ (conditions : Conditions) (bound : ℕ) (IsToken : Token → Type 0) (f
       let y = expressions_seen i.arguments.items hs in
       ((λ j. tree.Interpreter (x.same j) (y.0 j)), (x.given, y.1))
 
-  -- a setting, by the tree of its value
-  record SeenSetting (s : Setting) (v : SettingValue Tok Tok) : Type 0 where
-    same : v ≡ value_of s
-    given : HasDerivedSettingFields s → IsFilledSetting conditions.expander IsToken s
+  -- what a setting has beside its name, by the tree of its value
+  record SeenContent (c : Content) (v : SettingValue Tok Tok) : Type 0 where
+    same : v ≡ content_by expr_of exprs_of literal_tok c
+    given : HasDerivedContent c → IsFilledContent conditions.expander IsToken c
 
-  setting_seen : (s : Setting) {v : SettingValue Tok Tok} → AlikeValue seen (leaf_value_of s) v → SeenSetting s v
-  setting_seen (settings.DotenvCommand value) h = let x = value_seen value h in record { same = x.0; given = λ fields. x.1 }
-  setting_seen (settings.DotenvFilename value) h = let x = value_seen value h in record { same = x.0; given = λ fields. x.1 }
-  setting_seen (settings.DotenvPath value) h = let x = value_seen value h in record { same = x.0; given = λ fields. x.1 }
-  setting_seen (settings.Indentation literal indentation) h = let x = literal_seen literal h in record { same = x.0; given = λ fields. (x.1, fields) }
-  setting_seen (settings.MinimumVersion literal) h = let x = literal_seen literal h in record { same = x.0; given = λ fields. x.1 }
-  setting_seen (settings.ScriptInterpreter i) h = let x = command_seen i h in record { same = x.0; given = λ fields. x.1 }
-  setting_seen (settings.Shell i) h = let x = command_seen i h in record { same = x.0; given = λ fields. x.1 }
-  setting_seen (settings.Tempdir value) h = let x = value_seen value h in record { same = x.0; given = λ fields. x.1 }
-  setting_seen (settings.WindowsShell i) h = let x = command_seen i h in record { same = x.0; given = λ fields. x.1 }
-  setting_seen (settings.WorkingDirectory value) h = let x = value_seen value h in record { same = x.0; given = λ fields. x.1 }
-  setting_seen _ a.truth = record { same = refl; given = λ fields. tt }
+  content_seen : (c : Content) {v : SettingValue Tok Tok} → AlikeValue seen (content_by leaf_tree_of trees_of (λ l. Literal (literal_of l)) c) v → SeenContent c v
+  content_seen (TruthContent value) a.truth = record { same = refl; given = λ fields. tt }
+  content_seen (ExpressionContent value) h = let x = value_seen value h in record { same = x.0; given = λ fields. x.1 }
+  content_seen (InterpreterContent i) h = let x = command_seen i h in record { same = x.0; given = λ fields. x.1 }
+  content_seen (PlainContent literal) h = let x = literal_seen literal h in record { same = x.0; given = λ fields. x.1 }
+  content_seen (IndentationContent literal indentation) h = let x = literal_seen literal h in record { same = x.0; given = λ fields. (x.1, fields) }
 
   -- ---- items
 
@@ -387,7 +379,7 @@ module _ (conditions : Conditions) (bound : ℕ) (IsToken : Token → Type 0) (f
   item_seen n (items.Setting s) (a.setting {d' = ws} {a' = t} {v' = v} means h k) =
       let m = means s.attributes refl in
       let x = name_seen s.name t h in
-      let y = setting_seen s.value k in
+      let y = content_seen (content_of s.value) k in
       record {
         same = meant_construct s.attributes (tree.Setting (record { keyword = keyword_of s.value; name = t; value = v })) ws m.0 (λ i. tree.Setting (record { keyword = keyword_of s.value; name = x.0 i; value = y.same i }));
         given = λ fields. record { among = x.1; value = y.given fields.value; attributes = given_fields s.attributes m.1 fields.attributes };

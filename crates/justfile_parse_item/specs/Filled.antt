@@ -49,8 +49,8 @@ use Rattle.justfile_parse_item.specs.DerivedFields.{is_private_item}
 use Rattle.justfile_parse_expression.specs.Significant.{TableToken}
 use Rattle.justfile_parse_header.specs.ArgAttribute.{HaveDerivedParameterFields}
 use Rattle.justfile_parse_header.specs.Tree.{rules_of}
+use Rattle.justfile_setting.specs.Setting.{Content, ExpressionContent, IndentationContent, InterpreterContent, PlainContent, TruthContent, content_of}
 use Rattle.justfile_setting.specs.declared.setting.Setting as values
-use Rattle.justfile_setting.specs.declared.setting.Setting.TheVariants as settings
 
 -- The token is in the table.
 pub record IsInTable (table : List TableToken) (token : Token) : Type 0 where
@@ -190,37 +190,16 @@ module _ (expander : Expansions) (IsToken : Token → Type 0) where
   abbrev pub IsFilledCommandLine : Interpreter Expression → Type 0
   IsFilledCommandLine i = IsFilledExpression expander IsToken i.command × All (IsFilledExpression expander IsToken) i.arguments.items
 
-  -- The literals of a setting have their texts. An indentation is that of its literal.
+  -- The literals of what a setting has beside its name have their texts. An indentation is that of its literal.
+  abbrev pub IsFilledContent : Content → Type 0
+  IsFilledContent (TruthContent value) = Unit {0}
+  IsFilledContent (ExpressionContent value) = IsFilledExpression expander IsToken value
+  IsFilledContent (InterpreterContent command) = IsFilledCommandLine command
+  IsFilledContent (PlainContent literal) = IsFilledLiteral expander IsToken literal
+  IsFilledContent (IndentationContent literal indentation) = IsFilledLiteral expander IsToken literal × (indentation_text indentation ≡ string_bytes literal.cooked)
+
   abbrev pub IsFilledSetting : values.Setting → Type 0
-  IsFilledSetting (settings.DotenvCommand value) = IsFilledExpression expander IsToken value
-  IsFilledSetting (settings.DotenvFilename value) = IsFilledExpression expander IsToken value
-  IsFilledSetting (settings.DotenvPath value) = IsFilledExpression expander IsToken value
-  IsFilledSetting (settings.Indentation literal indentation) = IsFilledLiteral expander IsToken literal × (indentation_text indentation ≡ string_bytes literal.cooked)
-  IsFilledSetting (settings.MinimumVersion literal) = IsFilledLiteral expander IsToken literal
-  IsFilledSetting (settings.ScriptInterpreter interpreter) = IsFilledCommandLine interpreter
-  IsFilledSetting (settings.Shell interpreter) = IsFilledCommandLine interpreter
-  IsFilledSetting (settings.Tempdir value) = IsFilledExpression expander IsToken value
-  IsFilledSetting (settings.WindowsShell interpreter) = IsFilledCommandLine interpreter
-  IsFilledSetting (settings.WorkingDirectory value) = IsFilledExpression expander IsToken value
-  IsFilledSetting (settings.AllowDuplicateRecipes value) = Unit {0}
-  IsFilledSetting (settings.AllowDuplicateVariables value) = Unit {0}
-  IsFilledSetting (settings.DefaultList value) = Unit {0}
-  IsFilledSetting (settings.DefaultScript value) = Unit {0}
-  IsFilledSetting (settings.DotenvLoad value) = Unit {0}
-  IsFilledSetting (settings.DotenvOverride value) = Unit {0}
-  IsFilledSetting (settings.DotenvRequired value) = Unit {0}
-  IsFilledSetting (settings.Export value) = Unit {0}
-  IsFilledSetting (settings.Fallback value) = Unit {0}
-  IsFilledSetting (settings.Guards value) = Unit {0}
-  IsFilledSetting (settings.IgnoreComments value) = Unit {0}
-  IsFilledSetting (settings.Lazy value) = Unit {0}
-  IsFilledSetting (settings.Lists value) = Unit {0}
-  IsFilledSetting (settings.NoCd value) = Unit {0}
-  IsFilledSetting (settings.NoExitMessage value) = Unit {0}
-  IsFilledSetting (settings.PositionalArguments value) = Unit {0}
-  IsFilledSetting (settings.Quiet value) = Unit {0}
-  IsFilledSetting (settings.Unstable value) = Unit {0}
-  IsFilledSetting (settings.WindowsPowerShell value) = Unit {0}
+  IsFilledSetting s = IsFilledContent (content_of s)
 
   -- The name of a function's parameter, which has a number, is a token that `IsToken` allows.
   abbrev pub IsFilledNumbered : Name × Number → Type 0
