@@ -19,28 +19,13 @@ counted_alike first (m ∷ ms) (n ∷ ns) p q same =
 
 -- an item has as many numbers as bindings
 item_count : (i : Item) → length (item_numbers i) ≡ item_bindings (item_of i)
-item_count (items.Alias a) = refl
-item_count (items.Assignment a) = refl
-item_count (items.Comment text) = refl
 item_count (items.Function f) = length-map f.parameters.items function_parameter_number ∙ sym (length-map f.parameters.items function_parameter_of)
-item_count (items.Import attributes optional relative) = refl
-item_count (items.Module attributes doc name optional relative) = refl
-item_count items.Newline = refl
 item_count (items.Recipe r) = length-map r.parameters.items parameter_number ∙ sym (length-map r.parameters.items parameter_of)
-item_count (items.Setting s) = refl
-item_count (items.Unexport attributes name) = refl
+item_count _ = refl
 
 item_recipe_count : (i : Item) → length (item_recipe_numbers i) ≡ item_recipes (item_of i)
-item_recipe_count (items.Alias a) = refl
-item_recipe_count (items.Assignment a) = refl
-item_recipe_count (items.Comment text) = refl
-item_recipe_count (items.Function f) = refl
-item_recipe_count (items.Import attributes optional relative) = refl
-item_recipe_count (items.Module attributes doc name optional relative) = refl
-item_recipe_count items.Newline = refl
 item_recipe_count (items.Recipe r) = refl
-item_recipe_count (items.Setting s) = refl
-item_recipe_count (items.Unexport attributes name) = refl
+item_recipe_count _ = refl
 
 bindings_count : (is : List Item) → length (flat_map item_numbers is) ≡ bindings (map item_of is)
 bindings_count [] = refl

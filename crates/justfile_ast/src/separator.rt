@@ -74,14 +74,6 @@ fn is_line_end(item: &Item<'_>) -> bool
 {
     match item {
         Item::Newline => true,
-        Item::Alias(_)
-        | Item::Assignment(_)
-        | Item::Comment(_)
-        | Item::Function(_)
-        | Item::Import { .. }
-        | Item::Module { .. }
-        | Item::Recipe(_)
-        | Item::Setting(_)
-        | Item::Unexport { .. } => false,
+        _ => false,
     }
 }

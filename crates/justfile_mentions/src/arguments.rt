@@ -22,15 +22,7 @@ pub(crate) fn push_arguments(
 {
     match item {
         Item::Recipe(recipe) => push_among(recipe.attributes.written(), alloc, index, mentions),
-        Item::Alias(_)
-        | Item::Assignment(_)
-        | Item::Comment(_)
-        | Item::Function(_)
-        | Item::Import { .. }
-        | Item::Module { .. }
-        | Item::Newline
-        | Item::Setting(_)
-        | Item::Unexport { .. } => Ok(()),
+        _ => Ok(()),
     }
 }
 

@@ -21,16 +21,9 @@ name_part p = codes " " ++ name_text p.0
 
 -- the parameters of a recipe as they are printed, or the names of those of a function, each after a space; other items have none
 abbrev pub item_parameters : Item → List ℕ
-item_parameters (items.Alias a) = []
-item_parameters (items.Assignment a) = []
-item_parameters (items.Comment text) = []
 item_parameters (items.Function f) = flat_map name_part f.parameters.items
-item_parameters (items.Import attributes optional relative) = []
-item_parameters (items.Module attributes doc name optional relative) = []
-item_parameters items.Newline = []
 item_parameters (items.Recipe r) = parameters_text r.parameters.items
-item_parameters (items.Setting s) = []
-item_parameters (items.Unexport attributes name) = []
+item_parameters _ = []
 
 -- the texts of the names of the groups among attributes, in order
 abbrev pub set_groups : AttributeSet → List (List ℕ)
@@ -43,15 +36,7 @@ groups_of (Some set) = set_groups set
 -- the names of the path of the recipe that an alias refers to
 abbrev pub item_target : Item → Option (List Name)
 item_target (items.Alias a) = Some (names_in a.target)
-item_target (items.Assignment a) = None
-item_target (items.Comment text) = None
-item_target (items.Function f) = None
-item_target (items.Import attributes optional relative) = None
-item_target (items.Module attributes doc name optional relative) = None
-item_target items.Newline = None
-item_target (items.Recipe r) = None
-item_target (items.Setting s) = None
-item_target (items.Unexport attributes name) = None
+item_target _ = None
 
 -- what is shown of an item with this name
 abbrev pub symbol_of : Item → Name → Shown

@@ -24,14 +24,7 @@ pub(crate) fn parameters_text(item: &Item<'_>, alloc: Global) -> Result<String, 
     match item {
         Item::Function(function) => names_text(&function.parameters, alloc),
         Item::Recipe(recipe) => printed_text(&recipe.parameters, alloc),
-        Item::Alias(_)
-        | Item::Assignment(_)
-        | Item::Comment(_)
-        | Item::Import { .. }
-        | Item::Module { .. }
-        | Item::Newline
-        | Item::Setting(_)
-        | Item::Unexport { .. } => Ok(String::new(alloc)),
+        _ => Ok(String::new(alloc)),
     }
 }
 
@@ -126,15 +119,7 @@ pub(crate) fn copy_target<'src>(
 {
     match item {
         Item::Alias(alias) => copy_path(&alias.target, alloc),
-        Item::Assignment(_)
-        | Item::Comment(_)
-        | Item::Function(_)
-        | Item::Import { .. }
-        | Item::Module { .. }
-        | Item::Newline
-        | Item::Recipe(_)
-        | Item::Setting(_)
-        | Item::Unexport { .. } => Ok(None),
+        _ => Ok(None),
     }
 }
 

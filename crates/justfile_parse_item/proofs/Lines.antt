@@ -113,17 +113,9 @@ module _ (done : Items) (s : State) where
 
 -- whether an item has a body
 pub has_body_is : (i : file.Item) → has_body (item_of i) ≡ has_body (item_tree i)
-has_body_is (items.Alias a) = refl
-has_body_is (items.Assignment a) = refl
-has_body_is (items.Comment text) = refl
-has_body_is (items.Function f) = refl
-has_body_is (items.Import attributes optional relative) = refl
-has_body_is (items.Module attributes doc name optional relative) = refl
-has_body_is items.Newline = refl
-has_body_is (items.Setting s) = refl
-has_body_is (items.Unexport attributes name) = refl
 has_body_is (items.Recipe r) = by_lines r.body.items
   where
     by_lines : (ls : List body.Line) → some_line (map body_line_of ls) ≡ some_line (map line_tree ls)
     by_lines [] = refl
     by_lines (l ∷ ls) = refl
+has_body_is _ = refl

@@ -53,14 +53,9 @@ recipe_names r = refers roles.Recipe r.name true ∷ map parameter r.parameters.
 abbrev pub item_names : Item → List Reference
 item_names (items.Alias a) = alias_names a
 item_names (items.Assignment a) = refers roles.Variable a.name true ∷ []
-item_names (items.Comment text) = []
 item_names (items.Function f) = function_names f
-item_names (items.Import attributes optional relative) = []
-item_names (items.Module attributes doc name optional relative) = []
-item_names items.Newline = []
 item_names (items.Recipe r) = recipe_names r
-item_names (items.Setting s) = []
-item_names (items.Unexport attributes name) = []
+item_names _ = []
 
 -- the variable or the function that an expression names itself
 abbrev pub expression_uses : Expression → List Reference

@@ -28,15 +28,7 @@ impl Defaults {
     {
         match item {
             Item::Recipe(recipe) => Defaults::of_recipe(recipe),
-            Item::Alias(_)
-            | Item::Assignment(_)
-            | Item::Comment(_)
-            | Item::Function(_)
-            | Item::Import { .. }
-            | Item::Module { .. }
-            | Item::Newline
-            | Item::Setting(_)
-            | Item::Unexport { .. } => Defaults::Nowhere,
+            _ => Defaults::Nowhere,
         }
     }
 

@@ -23,12 +23,7 @@ pub(crate) fn push_names<'src>(
         Item::Assignment(assignment) => push_definition(Role::Variable, assignment.name, found),
         Item::Function(function) => push_function(function, found),
         Item::Recipe(recipe) => push_recipe(recipe, found),
-        Item::Comment(_)
-        | Item::Import { .. }
-        | Item::Module { .. }
-        | Item::Newline
-        | Item::Setting(_)
-        | Item::Unexport { .. } => Ok(()),
+        _ => Ok(()),
     }
 }
 

@@ -42,15 +42,7 @@ fn push_item(
 {
     match item {
         Item::Import { relative, .. } => push_import(relative, alloc, part, found),
-        Item::Alias(_)
-        | Item::Assignment(_)
-        | Item::Comment(_)
-        | Item::Function(_)
-        | Item::Module { .. }
-        | Item::Newline
-        | Item::Recipe(_)
-        | Item::Setting(_)
-        | Item::Unexport { .. } => push_if_named(item, alloc, part, found),
+        _ => push_if_named(item, alloc, part, found),
     }
 }
 
@@ -139,14 +131,6 @@ fn body_lines(item: &Item<'_>) -> Option<(usize, usize)> {
             (Some(first), Some(last)) => Some((first.number, last.number)),
             _ => None,
         },
-        Item::Alias(_)
-        | Item::Assignment(_)
-        | Item::Comment(_)
-        | Item::Function(_)
-        | Item::Import { .. }
-        | Item::Module { .. }
-        | Item::Newline
-        | Item::Setting(_)
-        | Item::Unexport { .. } => None,
+        _ => None,
     }
 }
