@@ -48,16 +48,9 @@ leaf_entries_of set = map leaf_entry_of (written_of set)
 
 -- an item of this kind can have attributes
 abbrev pub IsConstruct : ItemKind → Type 0
-IsConstruct items.Alias = Unit {0}
-IsConstruct items.Assignment = Unit {0}
 IsConstruct items.Comment = ⊥
-IsConstruct items.Function = Unit {0}
-IsConstruct items.Import = Unit {0}
-IsConstruct items.Module = Unit {0}
 IsConstruct items.Newline = ⊥
-IsConstruct items.Recipe = Unit {0}
-IsConstruct items.Setting = Unit {0}
-IsConstruct items.Unexport = Unit {0}
+IsConstruct _ = Unit {0}
 
 -- the error says that an item of this kind, named by this token, may not have an attribute of that kind
 abbrev pub NamesInvalid : ItemKind → (name : Token) → AttributeKind → CompileErrorKind → Type 0

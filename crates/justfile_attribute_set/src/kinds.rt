@@ -67,9 +67,6 @@ pub(crate) fn may_have(item_kind: ItemKind, kind: AttributeKind) -> bool
             kind.is_enabler() || matches!(kind, AttributeKind::Private)
         }
         ItemKind::Comment | ItemKind::Newline => false,
-        ItemKind::Function | ItemKind::Import | ItemKind::Setting | ItemKind::Unexport => {
-            kind.is_enabler()
-        }
         ItemKind::Module => {
             kind.is_enabler()
                 || matches!(
@@ -78,5 +75,6 @@ pub(crate) fn may_have(item_kind: ItemKind, kind: AttributeKind) -> bool
                 )
         }
         ItemKind::Recipe => true,
+        _ => kind.is_enabler(),
     }
 }

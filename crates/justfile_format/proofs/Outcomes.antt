@@ -2,8 +2,8 @@
 use Rattle.std.proofs.Common.{ℕ, List, Option}
 use Rattle.std.specs.Io.KnownBytes.{Keeps}
 use Rattle.std.proofs.KnownBytes.{Appends-kept}
-use Rattle.justfile_writing.specs.Formatting.{Formats}
-use Rattle.justfile_writing.specs.Formatting.{FormatsBeginning}
+use Rattle.justfile_format.specs.Formatting.{Formats}
+use Rattle.justfile_format.specs.Formatting.{FormatsBeginning}
 use Rattle.system_run.proofs.Beginnings.{whole}
 
 -- all was written, and stays as it is

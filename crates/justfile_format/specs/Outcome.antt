@@ -2,12 +2,12 @@
 use Rattle.std.specs.Prelude.{◌≡◌, ◌≢◌, ℕ, List, Option, IfSome, String, string_bytes}
 use Rattle.std.specs.Str.{IsUtf8}
 use Rattle.justfile_format.specs.Arguments.{AsksCheck, AsksFormat}
-use Rattle.justfile_writing.specs.Failure.{failure_text, status_of}
-use Rattle.justfile_writing.specs.Formatting.{IsUnprintable, LacksNumbers}
-use Rattle.justfile_writing.specs.Formatting.{FormatsBeginning, IsRejection}
+use Rattle.justfile_format.specs.Failure.{failure_text, status_of}
+use Rattle.justfile_format.specs.Formatting.{IsUnprintable, LacksNumbers}
+use Rattle.justfile_format.specs.Formatting.{FormatsBeginning, IsRejection}
 use Rattle.system_run.specs.Beginning.{AppendsBeginning}
-use Rattle.justfile_writing.specs.declared.failure.Failure.{Failure}
-use Rattle.justfile_writing.specs.declared.failure.Failure.TheVariants.{Usage, Reading, NotUtf8, Rejected, NotPrintable, Writing, Memory, Numbers}
+use Rattle.justfile_format.specs.declared.failure.Failure.{Failure}
+use Rattle.justfile_format.specs.declared.failure.Failure.TheVariants.{Usage, Reading, NotUtf8, Rejected, NotPrintable, Writing, Memory, Numbers}
 
 -- What a failure implies about the arguments, the input, and the output before and after. That reading failed or memory ran out implies
 -- nothing.

@@ -2,10 +2,10 @@
 ghost use Rattle.std.specs.Prelude.{◌≡◌, IfErr, IfOk, IfSome, OnOk};
 ghost use Rattle.std.specs.Io.KnownBytes.{IsAtEnd};
 ghost use Rattle.std.specs.Str.{IsUtf8};
-ghost use Rattle.justfile_writing.specs.declared.failure.Failure.TheVariants as failures;
-ghost use Rattle.justfile_writing.specs.Failure.{IsOfReading};
+ghost use Rattle.justfile_format.specs.declared.failure.Failure.TheVariants as failures;
+ghost use Rattle.justfile_format.specs.Failure.{IsOfReading};
 
-use justfile_writing::failure::Failure;
+use crate::failure::Failure;
 use std::alloc::Global;
 use std::io::{self, ErrorKind, Read};
 use std::str;

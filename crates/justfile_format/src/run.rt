@@ -2,17 +2,17 @@
 ghost use Rattle.std.specs.Prelude.{◌≡◌, ◌≢◌, ◌≤◌, ◌<◌, true, false, Ok, Err, IfOk, IfErr, IfSome, OnOk};
 ghost use Rattle.std.specs.Io.KnownBytes.{IsAtEnd, Keeps};
 ghost use Rattle.std.specs.Str.{IsUtf8};
-ghost use Rattle.justfile_writing.specs.declared.failure.Failure.TheVariants as failures;
+ghost use Rattle.justfile_format.specs.declared.failure.Failure.TheVariants as failures;
 ghost use Rattle.justfile_format.specs.Arguments.{AsksCheck, AsksFormat};
-ghost use Rattle.justfile_writing.specs.Failure.{IfRejected};
-ghost use Rattle.justfile_writing.specs.Formatting.{HasNone, IsFormatted, IsUnprintable, LacksNumbers};
-ghost use Rattle.justfile_writing.specs.Formatting.{IsRejection, Formats, Differs};
+ghost use Rattle.justfile_format.specs.Failure.{IfRejected};
+ghost use Rattle.justfile_format.specs.Formatting.{HasNone, IsFormatted, IsUnprintable, LacksNumbers};
+ghost use Rattle.justfile_format.specs.Formatting.{IsRejection, Formats, Differs};
 ghost use Rattle.justfile_format.specs.Outcome.{Fails};
-ghost use Rattle.justfile_writing.specs.Formatting.{FormatsBeginning};
+ghost use Rattle.justfile_format.specs.Formatting.{FormatsBeginning};
 
+use crate::failure::{Failure, report};
+use crate::formatting::{format_input, format_to};
 use crate::input::{decode, read_all};
-use justfile_writing::failure::{Failure, report};
-use justfile_writing::formatting::{format_input, format_to};
 use std::alloc::Global;
 use std::io::{Read, Write};
 

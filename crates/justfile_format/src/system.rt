@@ -1,7 +1,7 @@
 //! The formatter as a program, on the arguments and the standard streams of the system.
 
+use crate::failure::{Failure, report};
 use crate::run::run;
-use justfile_writing::failure::{Failure, report};
 use std::alloc::Global;
 use std::io::{Read, Write};
 use std::process::ExitCode;

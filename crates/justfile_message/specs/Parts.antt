@@ -6,8 +6,8 @@ use Rattle.std.specs.Fmt.{decimal}
 use Rattle.justfile_vocabulary.specs.Count.{numbered_text}
 use Rattle.justfile_vocabulary.specs.ItemKind.{item_kind_article, item_kind_text}
 use Rattle.justfile_vocabulary.specs.Keyword.{keyword_text}
-use Rattle.justfile_shown.specs.List.{or_text, ticked_text}
-use Rattle.justfile_shown.specs.Shown.{line_text}
+use Rattle.justfile_message.specs.List.{or_text, ticked_text}
+use Rattle.justfile_message.specs.Shown.{line_text}
 use Rattle.justfile_vocabulary.specs.Text.{◌&◌}
 use Rattle.justfile_vocabulary.specs.TokenKind.{kind_text}
 use Rattle.justfile_vocabulary.specs.contracts.item_kind.ItemKindPartialEq.TheImpl as item_kinds

@@ -5,14 +5,14 @@ ghost use Rattle.justfile_vocabulary.specs.AttributeKind.{attribute_name};
 ghost use Rattle.justfile_vocabulary.specs.ItemKind.{item_kind_text};
 ghost use Rattle.justfile_vocabulary.specs.Keyword.{keyword_text};
 ghost use Rattle.justfile_message.specs.Parts.{duplicate_text, expected_characters, expected_tokens, indefinite_text, redefinition_text};
-ghost use Rattle.justfile_shown.specs.Shown.{blanks_text, line_text};
+ghost use Rattle.justfile_message.specs.Shown.{blanks_text, line_text};
 ghost use Rattle.justfile_vocabulary.specs.Text.{◌&◌};
 ghost use Rattle.justfile_vocabulary.specs.TokenKind.{kind_text};
 ghost use Rattle.justfile_numbers.specs.Version.{version_text};
 
+use crate::List;
+use crate::shown::{Blanks, LineNumber};
 use justfile_numbers::Version;
-use justfile_shown::List;
-use justfile_shown::shown::{Blanks, LineNumber};
 use justfile_vocabulary::{AttributeKind, ItemKind, Keyword, TokenKind};
 use std::fmt;
 

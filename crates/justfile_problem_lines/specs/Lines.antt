@@ -1,7 +1,7 @@
 -- The lines that tell problems.
 use Rattle.std.specs.Prelude.{◌≡◌, ℕ, List, ◌++◌, Option, None, codes}
 use Rattle.std.specs.List.{AllZip, flat_map}
-use Rattle.justfile_shown.specs.Columns.{line_at}
+use Rattle.justfile_message.specs.Columns.{line_at}
 use Rattle.justfile_token.specs.Excerpt.{excerpt_on}
 use Rattle.justfile_token.specs.Messages.{message_text}
 use Rattle.justfile_token.specs.declared.compile_error.CompileError.{CompileError}

@@ -1,9 +1,9 @@
 //! The lines of a text, found one after the other.
 ghost use Rattle.std.specs.Prelude.{◌≡◌, ◌<◌, drop, length};
 ghost use Rattle.std.specs.Str.Lines.{lines};
-ghost use Rattle.justfile_shown.specs.Columns.{line_at};
+ghost use Rattle.justfile_message.specs.Columns.{line_at};
 
-use justfile_shown::columns::line_at;
+use justfile_message::columns::line_at;
 
 /// Returns what follows the first line of a text.
 fn after_line(text: &str) -> &str

@@ -217,7 +217,7 @@ pub mod line {
 pub mod list {
     //! Lists of alternatives, as messages show them, and what can be an alternative.
 
-    pub use justfile_shown::List;
+    pub use justfile_message::List;
     pub use justfile_vocabulary::alternative::Alternative;
 }
 

@@ -1,7 +1,7 @@
 -- The excerpt of a token: its position, and its line with carets under the token. Positions count bytes, columns are those of a screen.
 use Rattle.std.specs.Prelude.{ℕ, ◌+◌, max, List, ◌++◌, length, codes, decimal, encode_utf8_all}
 use Rattle.std.specs.List.{repeat}
-use Rattle.justfile_shown.specs.Columns.{line_at, shown_line, width_in}
+use Rattle.justfile_message.specs.Columns.{line_at, shown_line, width_in}
 use Rattle.justfile_token.specs.declared.token.Token.{Token}
 
 -- the number of the token's line, from 1

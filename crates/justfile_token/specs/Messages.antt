@@ -11,7 +11,7 @@ use Rattle.justfile_vocabulary.specs.ListFeature.{feature_text}
 use Rattle.justfile_message.specs.Parts.{arguments_text, duplicate_text, expected_characters, expected_keywords, expected_tokens, range_text, recipe_circle_text, redefinition_text, taken_text, variable_circle_text}
 use Rattle.justfile_token.specs.Name.{name_text}
 use Rattle.justfile_token.specs.Namepath.{namepath_text}
-use Rattle.justfile_shown.specs.Shown.{blanks_text, escaped_text, line_text, start_text}
+use Rattle.justfile_message.specs.Shown.{blanks_text, escaped_text, line_text, start_text}
 use Rattle.justfile_token.specs.StringLiteral.{literal_text}
 use Rattle.justfile_vocabulary.specs.Switch.{switch_text}
 use Rattle.justfile_token.specs.Token.{lexeme_of}

@@ -4,7 +4,7 @@ ghost use Rattle.std.specs.Fmt.{DisplaysOnOk};
 ghost use Rattle.justfile_token.specs.Excerpt.{bar_line, caret_line, excerpt_on, excerpt_text, indent, place_line, source_line};
 
 use crate::token::Token;
-use justfile_shown::columns::{
+use justfile_message::columns::{
     digit_count, line_at, ordinal, write_carets, write_columns, write_line,
 };
 use std::fmt;

@@ -16,7 +16,7 @@ use justfile_message::parts::{
     write_invalid_count, write_invalid_version, write_minimum_version, write_mixed,
     write_redefinition, write_unexpected_token,
 };
-use justfile_shown::shown::{Escaped, Start};
+use justfile_message::shown::{Escaped, Start};
 use std::fmt;
 
 /// Writes the message of an error kind at a token on this line.

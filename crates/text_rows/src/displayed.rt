@@ -2,9 +2,9 @@
 
 use justfile_expression::ListOperator;
 use justfile_lex::Lexer;
+use justfile_message::List;
 use justfile_model::ConditionalOperator;
 use justfile_numbers::{Number, Numerator, Version};
-use justfile_shown::List;
 use justfile_token::{
     Delimiter, ExpandFault, Fault, Keyed, Name, StringDelimiter, StringKind, StringLiteral, Token,
 };

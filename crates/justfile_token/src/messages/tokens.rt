@@ -1,7 +1,7 @@
 //! Messages that show a token or a delimiter.
 ghost use Rattle.std.specs.Prelude.{◌≡◌, Some, codes};
 ghost use Rattle.std.specs.Fmt.{DisplaysOnOk};
-ghost use Rattle.justfile_shown.specs.Shown.{line_text};
+ghost use Rattle.justfile_message.specs.Shown.{line_text};
 ghost use Rattle.justfile_vocabulary.specs.Text.{◌&◌};
 ghost use Rattle.justfile_token.specs.Delimiter.{close_text, open_text};
 ghost use Rattle.justfile_token.specs.Messages.{found_text, is_identifier};
@@ -9,8 +9,8 @@ ghost use Rattle.justfile_message.specs.Parts.{expected_keywords};
 
 use crate::delimiter::Delimiter;
 use crate::token::Token;
-use justfile_shown::List;
-use justfile_shown::shown::LineNumber;
+use justfile_message::List;
+use justfile_message::shown::LineNumber;
 use justfile_vocabulary::{Keyword, TokenKind};
 use std::fmt;
 

@@ -2,7 +2,7 @@ use Rattle.std.proofs.Common.{◌++◌, codes, max, refl}
 use Rattle.std.proofs.Output.{has_written_append, has_written_of_eq}
 use Rattle.std.specs.List.{repeat}
 use Rattle.justfile_token.specs.Excerpt.{bar_line}
-use Rattle.justfile_shown.specs.Columns.{width_in}
+use Rattle.justfile_message.specs.Columns.{width_in}
 use Rattle.justfile_token.proofs.excerpt.write_caret_line.Goals as goal
 
 pub returns : goal.returns

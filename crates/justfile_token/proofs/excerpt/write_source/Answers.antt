@@ -2,7 +2,7 @@ use Rattle.std.proofs.Common.{◌++◌, codes, refl, sym, ap, append_assoc}
 use Rattle.std.specs.Char.{encode_utf8}
 use Rattle.std.proofs.Output.{has_written_append, has_written_of_eq}
 use Rattle.justfile_token.specs.Excerpt.{bar, number_text}
-use Rattle.justfile_shown.specs.Columns.{shown_line}
+use Rattle.justfile_message.specs.Columns.{shown_line}
 use Rattle.justfile_token.proofs.excerpt.write_source.Goals as goal
 
 pub returns : goal.returns

@@ -1,6 +1,0 @@
-use Rattle.std.proofs.lemmas.Iterator.Consumers.{nth_from_yields_List}
-use Rattle.std.proofs.lemmas.Iterator.Splits.{YieldsList-from_lines}
-use Rattle.justfile_shown.proofs.columns.find_line.Goals as goal
-
-pub returns : goal.returns
-returns c = nth_from_yields_List _ _ c.args.number c.nth.ensures.ran (YieldsList-from_lines c.args.text.now c.lines.ensures.rest)

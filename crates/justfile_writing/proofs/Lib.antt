@@ -1,4 +1,0 @@
-pub mod Buffers
-pub mod Failures
-pub mod Files
-pub mod Texts
