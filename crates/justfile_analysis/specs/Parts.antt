@@ -8,7 +8,7 @@ use Rattle.justfile_token.specs.Messages.{message_text}
 use Rattle.justfile_token.specs.declared.compile_error.CompileError.{CompileError}
 use Rattle.justfile_token.specs.declared.fault.Fault.{Fault}
 use Rattle.justfile_token.specs.declared.fault.Fault.TheVariants.{Compile, Memory, Numbers}
-use Rattle.justfile_spans.specs.declared.span.Span as texts
+use Rattle.justfile_chunks.specs.declared.span.Span as texts
 use Rattle.justfile_model.specs.Lexing.BlankLines.{is_blank_or_line_end}
 use Rattle.justfile_ast.specs.declared.ast.Ast.{Ast}
 use Rattle.justfile_canonical.specs.Parsing.{IsPart}

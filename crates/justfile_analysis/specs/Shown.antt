@@ -2,7 +2,7 @@
 use Rattle.std.specs.Prelude.{ℕ, Bool, true, false, List, string_bytes}
 use Rattle.justfile_vocabulary.specs.declared.item_kind.ItemKind.{ItemKind}
 use Rattle.justfile_vocabulary.specs.declared.item_kind.ItemKind.TheVariants as kinds
-use Rattle.justfile_spans.specs.declared.span.Span as texts
+use Rattle.justfile_chunks.specs.declared.span.Span as texts
 use Rattle.justfile_survey.specs.Seen.{Seen, seen}
 use Rattle.justfile_survey.specs.declared.surveys.SurveyedItem.{SurveyedItem}
 use Rattle.editor_messages.specs.declared.symbol_kind.SymbolKind.{SymbolKind}

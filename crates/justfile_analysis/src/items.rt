@@ -46,7 +46,7 @@ fn is_import(kind: ItemKind) -> bool
 }
 
 /// Returns a span as an editor is shown it.
-pub(crate) fn editor_span(span: justfile_spans::Span) -> Span
+pub(crate) fn editor_span(span: justfile_chunks::Span) -> Span
     ensures { result ≡ editor_span span }
 {
     Span {

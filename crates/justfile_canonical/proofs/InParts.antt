@@ -21,7 +21,7 @@ use Rattle.justfile_chunks.proofs.ManyParts.{parts_law}
 use Rattle.justfile_chunks.proofs.MovedPlaces.{feeds_append}
 use Rattle.justfile_chunks.proofs.MovedTrees.{joined_shapes}
 use Rattle.justfile_chunks.proofs.SameNext.{cons_parts}
-use Rattle.justfile_spans.specs.PartTables.{IsLineStart}
+use Rattle.justfile_chunks.specs.PartTables.{IsLineStart}
 use Rattle.justfile_canonical.specs.Formatting.{IsFormatted}
 use Rattle.justfile_canonical.specs.Parts.{HasPrinted, IsFinished, IsPartStart, IsPartText, IsPrintedBy, IsPrintedTo, IsRestPrinted, IsSetBy, indentation_in_use, own_items, text_to}
 use Rattle.justfile_canonical.specs.Root.{conditions}

@@ -15,7 +15,7 @@ use Rattle.justfile_ast.specs.declared.separator.Separator.{Separator}
 use Rattle.justfile_ast.specs.declared.separator.Separator.TheVariants.{Start}
 use Rattle.justfile_round_trip.specs.RoundTrip.{TextDerives}
 use Rattle.justfile_chunks.specs.Parts.{BeginsAtOnce, IsRead, chunk}
-use Rattle.justfile_spans.specs.PartTables.{IsLineStart}
+use Rattle.justfile_chunks.specs.PartTables.{IsLineStart}
 use Rattle.justfile_canonical.specs.Root.{conditions}
 use Rattle.justfile_canonical.specs.declared.parts.Printer.{Printer}
 

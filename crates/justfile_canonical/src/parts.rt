@@ -10,9 +10,9 @@ ghost use Rattle.justfile_canonical.specs.Parts.{HasLineEnd, HasPrinted, IsChose
 
 use crate::root::parse_root;
 use justfile_ast::{Ast, Separator};
+use justfile_chunks::find_cut;
 use justfile_numbers::Version;
 use justfile_parse::{RECURSION_LIMIT, parse_part};
-use justfile_spans::find_cut;
 use justfile_token::{Source, Unchanged};
 use justfile_vocabulary::Indentation;
 use std::alloc::Global;

@@ -7,8 +7,10 @@ pub mod AllCuts
 pub mod AskedNext
 pub mod ChunkTokens
 pub mod ChunkTrees
+pub mod ChunksTo
 pub mod Colons
 pub mod CutModes
+pub mod CutTests
 pub mod CutTokens
 pub mod CutUp
 pub mod DocsAppend
@@ -26,9 +28,12 @@ pub mod MovedTrees
 pub mod OneCut
 pub mod OtherDedents
 pub mod Over
+pub mod PartFeeds
 pub mod PartLexes
 pub mod PartNext
+pub mod PartSpans
 pub mod PartSteps
+pub mod PartTables
 pub mod Passes
 pub mod ReadTexts
 pub mod SameModes

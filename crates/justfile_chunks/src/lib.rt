@@ -1,11 +1,19 @@
-//! The chunks of a text, as definitions, and their laws: what a text derives is what its chunks
-//! derive, joined.
+//! The chunks of a text and their laws: what a text derives is what its chunks derive, joined. Their
+//! spans, from the text's tokens; and the cuts at which a text can be read in parts.
 #![tactic(auto)]
 
+mod cuts;
 pub mod examples;
+mod parts;
+mod span;
+mod spans;
 
 ghost use Rattle.justfile_chunks.specs.Chunks.{NumberLaw, ShapeLaw, TokenLaw, TreeLaw};
 ghost use Rattle.justfile_chunks.specs.Parts.{JoinedShapeLaw, PartsLaw, ReadLaw};
+
+pub use crate::parts::{find_cut, take_next};
+pub use crate::span::Span;
+pub use crate::spans::chunks;
 
 /// A text derives a shape exactly if its chunks derive it. The chunks are the text cut at its items,
 /// each after the line feed before it. The shape is theirs, joined, without the items of these line

@@ -26,7 +26,7 @@ use Rattle.justfile_lex.proofs.TableLemmas.{table_tokens_among}
 use Rattle.justfile_parse_file.specs.Parsing.{IsFilledItem, IsInTable}
 use Rattle.justfile_parse_file.specs.MethodResults.{IsReadFile}
 use Rattle.justfile_parse_file.proofs.Parsed.{given_weaker, in_tokens, read_derives}
-use Rattle.justfile_spans.specs.PartTables.{IsCutOff}
+use Rattle.justfile_chunks.specs.PartTables.{IsCutOff}
 use Rattle.justfile_parse.specs.Parts.{IsPart}
 use Rattle.justfile_parse.proofs.Tables.{each_but_one}
 

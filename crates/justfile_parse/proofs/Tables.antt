@@ -17,7 +17,7 @@ use Rattle.justfile_parse_expression.specs.FormatStrings.{AreEnded, IsTable}
 use Rattle.justfile_parse_expression.specs.Literal.{is_sound}
 use Rattle.justfile_parse_file.proofs.FormatStrings.{inside_ended}
 use Rattle.justfile_parse_file.proofs.Parsed.{lexed_once, some_significant, sound_lex}
-use Rattle.justfile_spans.specs.PartTables.{IsCutOff}
+use Rattle.justfile_chunks.specs.PartTables.{IsCutOff}
 
 -- ---- the end after other tokens
 

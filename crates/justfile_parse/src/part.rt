@@ -4,10 +4,10 @@ ghost use Rattle.justfile_parse_expression.specs.Conditions.{conditions_of};
 ghost use Rattle.justfile_parse.specs.Parts.{IsPart};
 
 use justfile_ast::Ast;
+use justfile_chunks::take_next;
 use justfile_lex::Lexer;
 use justfile_numbers::{Numerator, Version};
 use justfile_parse_file::parse_significant;
-use justfile_spans::take_next;
 use justfile_token::{Expander, Source};
 use std::alloc::Global;
 

@@ -1,6 +1,6 @@
 -- Where spans lie.
 use Rattle.std.specs.Prelude.{ℕ, ◌≤◌}
-use Rattle.justfile_spans.specs.declared.span.Span.{Span}
+use Rattle.justfile_chunks.specs.declared.span.Span.{Span}
 
 -- the span lies in a text of this length
 pub record LiesIn (length : ℕ) (s : Span) : Type 0 where

@@ -1,9 +1,9 @@
 //! Spans and lines.
 ghost use Rattle.std.specs.Prelude.{◌≡◌, ◌≤◌, count_by, length};
-ghost use Rattle.justfile_spans.specs.Spans.{span};
+ghost use Rattle.justfile_chunks.specs.Spans.{span};
 ghost use Rattle.justfile_recovery.specs.Places.{LiesIn};
 
-use justfile_spans::Span;
+use justfile_chunks::Span;
 
 /// Returns the span from one offset up to another one, or as much of it as lies in a text of this
 /// length.

@@ -1,6 +1,6 @@
 //! Surveys of texts, as rows show them.
 
-use justfile_spans::Span;
+use justfile_chunks::Span;
 use justfile_survey::{Survey, SurveyedError, SurveyedItem, survey};
 use row_notation::{Answer, Text};
 

@@ -4,7 +4,7 @@ use Rattle.std.specs.Prelude.{All}
 use Rattle.std.proofs.lemmas.List.{map-append, length-append}
 use Rattle.std.proofs.lemmas.List.Elements.{All-append, All-cons, All-nil, All-push}
 use Rattle.justfile_recovery.specs.Places.{LiesIn}
-use Rattle.justfile_spans.specs.declared.span.Span.{Span}
+use Rattle.justfile_chunks.specs.declared.span.Span.{Span}
 use Rattle.justfile_ast.specs.declared.ast.Ast.{Ast}
 use Rattle.justfile_survey.specs.Parts.{AddsPart, AreOfParts, BeginsWith, ErrorsIn, IsFileOfPart, IsFoundBefore, Parses, seen_in}
 use Rattle.justfile_survey.specs.Seen.{Adds, PlacesIn, Seen, seen}

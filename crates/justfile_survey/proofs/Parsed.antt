@@ -4,8 +4,8 @@ use Rattle.std.specs.Prelude.{IfOk}
 use Rattle.justfile_ast.specs.declared.ast.Ast.{Ast}
 use Rattle.justfile_canonical.specs.Root.{IsRoot}
 use Rattle.justfile_recovery.specs.Places.{LiesIn}
-use Rattle.justfile_spans.specs.Spans.{text_from_feed}
-use Rattle.justfile_spans.specs.declared.span.Span.{Span}
+use Rattle.justfile_chunks.specs.Spans.{text_from_feed}
+use Rattle.justfile_chunks.specs.declared.span.Span.{Span}
 use Rattle.justfile_survey.specs.Parts.{AddsFile, AddsPart, Parses}
 use Rattle.justfile_survey.specs.Surveys.{IsRejectionIn}
 use Rattle.justfile_survey.specs.declared.errors.Rejection.{Rejection}

@@ -5,8 +5,8 @@ use Rattle.justfile_vocabulary.specs.declared.token_kind.TokenKind.TheVariants.{
 use Rattle.justfile_token.specs.declared.compile_error_kind.CompileErrorKind.{CompileErrorKind}
 use Rattle.justfile_token.specs.declared.compile_error_kind.CompileErrorKind.TheVariants as kinds
 use Rattle.justfile_token.specs.declared.token.Token.{Token}
-use Rattle.justfile_spans.specs.Spans.{span}
-use Rattle.justfile_spans.specs.declared.span.Span.{Span}
+use Rattle.justfile_chunks.specs.Spans.{span}
+use Rattle.justfile_chunks.specs.declared.span.Span.{Span}
 
 -- The token is the end of the text, after a line feed.
 pub record EndsAfterFeed (text : List ℕ) (t : Token) : Type 0 where

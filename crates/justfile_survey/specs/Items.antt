@@ -10,8 +10,8 @@ use Rattle.justfile_item.specs.Parts.{is_item_private, item_kind, item_name}
 use Rattle.justfile_item.specs.declared.item.Item.{Item}
 use Rattle.justfile_item.specs.declared.item.Item.TheVariants as items
 use Rattle.justfile_ast.specs.declared.ast.Ast.{Ast}
-use Rattle.justfile_spans.specs.Spans.{span}
-use Rattle.justfile_spans.specs.declared.span.Span.{Span}
+use Rattle.justfile_chunks.specs.Spans.{span}
+use Rattle.justfile_chunks.specs.declared.span.Span.{Span}
 use Rattle.justfile_survey.specs.Seen.{Seen}
 
 -- where a token is in a text of this length, if its offset counts from `base`: as much of it as lies in the text

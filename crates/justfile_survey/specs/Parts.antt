@@ -3,8 +3,8 @@ use Rattle.std.specs.Prelude.{◌≡◌, ◌≤◌, ◌<◌, ℕ, ◌-◌, List,
 use Rattle.justfile_ast.specs.declared.ast.Ast.{Ast}
 use Rattle.justfile_canonical.specs.Root.{IsRoot}
 use Rattle.justfile_recovery.specs.Places.{LiesIn}
-use Rattle.justfile_spans.specs.Spans.{text_from_feed}
-use Rattle.justfile_spans.specs.declared.span.Span.{Span}
+use Rattle.justfile_chunks.specs.Spans.{text_from_feed}
+use Rattle.justfile_chunks.specs.declared.span.Span.{Span}
 use Rattle.justfile_survey.specs.Items.{file_seen}
 use Rattle.justfile_survey.specs.Seen.{Adds, PlacesIn, Seen, seen}
 use Rattle.justfile_survey.specs.declared.errors.Rejection.{Rejection}

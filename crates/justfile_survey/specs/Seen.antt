@@ -2,7 +2,7 @@
 use Rattle.std.specs.Prelude.{◌≡◌, ℕ, Bool, List, ◌++◌, IfSome, map, All, string_bytes}
 use Rattle.justfile_vocabulary.specs.declared.item_kind.ItemKind.{ItemKind}
 use Rattle.justfile_recovery.specs.Places.{LiesIn}
-use Rattle.justfile_spans.specs.declared.span.Span.{Span}
+use Rattle.justfile_chunks.specs.declared.span.Span.{Span}
 use Rattle.justfile_survey.specs.declared.surveys.SurveyedItem.{SurveyedItem}
 
 -- a kind of item, a name, whether lists omit it, and where the name is

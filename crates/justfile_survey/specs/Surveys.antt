@@ -6,7 +6,7 @@ use Rattle.justfile_token.specs.declared.fault.Fault.TheVariants.{Compile, Memor
 use Rattle.justfile_ast.specs.declared.ast.Ast.{Ast}
 use Rattle.justfile_canonical.specs.Root.{HasNoRoot, IsRoot}
 use Rattle.justfile_recovery.specs.Places.{LiesIn}
-use Rattle.justfile_spans.specs.Spans.{span}
+use Rattle.justfile_chunks.specs.Spans.{span}
 use Rattle.justfile_survey.specs.Items.{file_seen}
 use Rattle.justfile_survey.specs.Parts.{AreOfParts, ErrorsIn}
 use Rattle.justfile_survey.specs.Seen.{PlacesIn, Seen, seen}

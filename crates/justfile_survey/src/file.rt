@@ -8,9 +8,9 @@ use crate::part::Part;
 use crate::surveys::SurveyedItem;
 use crate::whole::extents;
 use justfile_ast::Ast;
+use justfile_chunks::Span;
 use justfile_item::Item;
 use justfile_recovery::span_in;
-use justfile_spans::Span;
 use std::alloc::{AllocError, Global};
 
 /// Returns what is known of the items of a file that was parsed from a text. These are the lines of its

@@ -7,8 +7,8 @@ ghost use Rattle.justfile_survey.specs.Seen.{Adds};
 
 use crate::part::Part;
 use crate::surveys::SurveyedItem;
+use justfile_chunks::Span;
 use justfile_item::Item;
-use justfile_spans::Span;
 use justfile_token::{Name, StringLiteral};
 use justfile_vocabulary::ItemKind;
 use std::alloc::{AllocError, Global};

@@ -1,7 +1,7 @@
 //! Parsing a part of a text by itself.
 ghost use Rattle.std.specs.Prelude.{◌≡◌, ◌-◌, IfOk, length};
 ghost use Rattle.justfile_recovery.specs.Places.{LiesIn};
-ghost use Rattle.justfile_spans.specs.Spans.{text_from_feed};
+ghost use Rattle.justfile_chunks.specs.Spans.{text_from_feed};
 ghost use Rattle.justfile_survey.specs.Parts.{AddsFile, Parses};
 ghost use Rattle.justfile_survey.specs.Surveys.{IsRejectionIn};
 
@@ -14,8 +14,8 @@ use crate::whole::extents;
 use justfile_ast::Ast;
 use justfile_canonical::reading::release;
 use justfile_canonical::root::parse_root;
+use justfile_chunks::Span;
 use justfile_recovery::{span_in, without_blank_lines};
-use justfile_spans::Span;
 use justfile_token::{CompileError, Fault};
 use std::alloc::{AllocError, Global};
 

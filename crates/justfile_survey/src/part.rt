@@ -3,8 +3,8 @@ ghost use Rattle.std.specs.Prelude.{◌≡◌, length};
 ghost use Rattle.justfile_recovery.specs.Places.{LiesIn};
 ghost use Rattle.justfile_survey.specs.Items.{place_in};
 
+use justfile_chunks::Span;
 use justfile_recovery::{after_lines, span_in};
-use justfile_spans::Span;
 use justfile_token::Token;
 
 /// A part of a text that was parsed by itself.

@@ -6,8 +6,8 @@ ghost use Rattle.justfile_survey.specs.Parts.{BeginsWith, ErrorsIn, GoesOn, IsFo
 use crate::errors::Rejection;
 use crate::parsing::{Cut, Source, parse};
 use crate::surveys::{Survey, SurveyedError, SurveyedItem};
+use justfile_chunks::Span;
 use justfile_recovery::{last_start, line_feeds, line_start, next_start, part_end};
-use justfile_spans::Span;
 use std::alloc::{AllocError, Global};
 
 /// The most errors of parts.

@@ -1,6 +1,6 @@
 //! Surveys: what is known of a text.
 
-use justfile_spans::Span;
+use justfile_chunks::Span;
 use justfile_vocabulary::ItemKind;
 
 /// An item that has a name, or an import. Offsets are in bytes of the whole text.

@@ -10,8 +10,8 @@ use crate::surveys::{SurveyedError, SurveyedItem};
 use justfile_ast::Ast;
 use justfile_canonical::reading::release;
 use justfile_canonical::root::parse_root;
+use justfile_chunks::{Span, chunks};
 use justfile_lex::Lexer;
-use justfile_spans::{Span, chunks};
 use justfile_token::{CompileError, Fault};
 use std::alloc::{AllocError, Global};
 

@@ -51,7 +51,7 @@ pub mod byte_class {
 pub mod chunks {
     //! The chunks of a text, which is cut at its items.
 
-    pub use justfile_spans::{Span, chunks};
+    pub use justfile_chunks::{Span, chunks};
 }
 
 pub mod compile_error {

@@ -2,8 +2,8 @@
 
 use crate::token_count::token_count;
 use crate::word::Word;
+use justfile_chunks::{Span, chunks};
 use justfile_lex::{Lexer, significant};
-use justfile_spans::{Span, chunks};
 use justfile_token::{CompileError, Fault, StringKind, Token};
 use justfile_vocabulary::TokenKind;
 use row_notation::{Answer, Text, field_at, place_after, push_fault, push_kind, push_string_kind};

@@ -1,7 +1,7 @@
 use Rattle.std.proofs.Common.{rules, ◌≡◌, ◌<◌, sym, subst, arith}
 use Rattle.std.specs.Prelude.{nat_eq}
 use Rattle.std.proofs.lemmas.Str.{IsCharBoundary-after_ascii}
-use Rattle.justfile_spans.specs.PartTables.{IsLineStart}
+use Rattle.justfile_chunks.specs.PartTables.{IsLineStart}
 use Rattle.justfile_canonical.specs.Parts.{IsPartText, text_to}
 use Rattle.justfile_canonical.proofs.InParts.{part_text}
 use Rattle.justfile_canonical.proofs.parts.print_next.Goals as goal

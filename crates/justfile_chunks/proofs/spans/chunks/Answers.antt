@@ -3,12 +3,12 @@ use Rattle.std.specs.declared.alloc.Global.{Global}
 use Rattle.justfile_token.specs.declared.token.Token.{Token}
 use Rattle.justfile_model.specs.Lexing.Tok.{tok_of}
 use Rattle.justfile_chunks.specs.Chunks.{next_kind}
-use Rattle.justfile_spans.specs.declared.span.Span.{Span}
-use Rattle.justfile_spans.specs.Cuts.{is_cut}
-use Rattle.justfile_spans.specs.Spans.{span}
-use Rattle.justfile_spans.proofs.ChunksTo.{ChunksTo, among, at_first, cuts, finished, passes, rest_is, same}
-use Rattle.justfile_spans.proofs.spans.chunks.Goals as goal
-use Rattle.justfile_spans.proofs.spans.chunks.Goals.{then-is_cut+in_ok-push, else-is_cut}
+use Rattle.justfile_chunks.specs.declared.span.Span.{Span}
+use Rattle.justfile_chunks.specs.Cuts.{is_cut}
+use Rattle.justfile_chunks.specs.Spans.{span}
+use Rattle.justfile_chunks.proofs.ChunksTo.{ChunksTo, among, at_first, cuts, finished, passes, rest_is, same}
+use Rattle.justfile_chunks.proofs.spans.chunks.Goals as goal
+use Rattle.justfile_chunks.proofs.spans.chunks.Goals.{then-is_cut+in_ok-push, else-is_cut}
 
 pub loop-at-init : goal.loop-at-init
 loop-at-init c = subst (λ (s : List Span). ChunksTo c.args.tokens.now 0 s 0 0 None) (sym c.new-spans.ensures.items) (at_first c.args.tokens.now)

@@ -8,7 +8,7 @@ use Rattle.justfile_model.specs.Lexing.BlankLines.{is_blank_or_line_end}
 use Rattle.justfile_model.specs.Lexing.SignificantTokens.{SignificantToken, TableToken, is_whitespace, significant_tokens}
 use Rattle.justfile_model.specs.Lexing.Tok.{Tok}
 use Rattle.justfile_chunks.specs.Chunks.{IsCut}
-use Rattle.justfile_spans.specs.Cuts.{depth_after, is_cut, line_after}
+use Rattle.justfile_chunks.specs.Cuts.{depth_after, is_cut, line_after}
 
 -- A line begins here, at once.
 pub record IsLineStart (text : List ℕ) (at : ℕ) : Type 0 where

@@ -3,7 +3,7 @@ ghost use Rattle.std.specs.Prelude.{◌≡◌, ◌<◌, map};
 ghost use Rattle.justfile_model.specs.Lexing.SignificantTokens.{is_whitespace};
 ghost use Rattle.justfile_model.specs.Lexing.Tok.{tok_of};
 ghost use Rattle.justfile_chunks.specs.Chunks.{ends_line, is_ignored, next_kind};
-ghost use Rattle.justfile_spans.specs.Cuts.{begins_no_item, depth_after, goes_on, is_cut, joins, line_after};
+ghost use Rattle.justfile_chunks.specs.Cuts.{begins_no_item, depth_after, goes_on, is_cut, joins, line_after};
 
 use justfile_token::Token;
 use justfile_vocabulary::TokenKind;

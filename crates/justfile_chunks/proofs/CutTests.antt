@@ -7,7 +7,7 @@ use Rattle.justfile_vocabulary.specs.declared.token_kind.TokenKind.TheVariants.{
 use Rattle.justfile_model.specs.Lexing.Modes.{Mode, mode, mode_after, tail_of}
 use Rattle.justfile_model.specs.Lexing.Tok.{Tok}
 use Rattle.justfile_chunks.specs.Chunks.{IsCutAfter, ends_line, first_or, is_ignored, line_kind, next_kind}
-use Rattle.justfile_spans.specs.Cuts.{begins_no_item, depth_after, goes_on, is_cut, joins, line_after}
+use Rattle.justfile_chunks.specs.Cuts.{begins_no_item, depth_after, goes_on, is_cut, joins, line_after}
 
 -- ---- the depth is the number of levels
 

@@ -15,9 +15,9 @@ use Rattle.justfile_chunks.specs.Chunks.{AreParts, Parts, after_feed, chunk_text
 use Rattle.justfile_chunks.proofs.ChunkTokens.{whole_is}
 use Rattle.justfile_chunks.proofs.MovedPlaces.{Placed, placed, placed_after}
 use Rattle.justfile_chunks.proofs.TidyModes.{EndsInFeed, fed_more}
-use Rattle.justfile_spans.specs.declared.span.Span.{Span}
-use Rattle.justfile_spans.specs.Spans.{AreChunks, IsIn, Tile, end_after, span, span_of, text_from_feed, text_in, texts_in}
-use Rattle.justfile_spans.proofs.PartFeeds.{Feeds, feeds}
+use Rattle.justfile_chunks.specs.declared.span.Span.{Span}
+use Rattle.justfile_chunks.specs.Spans.{AreChunks, IsIn, Tile, end_after, span, span_of, text_from_feed, text_in, texts_in}
+use Rattle.justfile_chunks.proofs.PartFeeds.{Feeds, feeds}
 
 -- ---- spans, each from the end of the one before it
 

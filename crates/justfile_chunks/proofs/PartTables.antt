@@ -17,9 +17,9 @@ use Rattle.justfile_chunks.proofs.AllCuts.{onto_reverse}
 use Rattle.justfile_chunks.proofs.ChunkTokens.{from_start, onto}
 use Rattle.justfile_chunks.proofs.PartLexes.{EndsEmpty, EndsOnce}
 use Rattle.justfile_chunks.proofs.SameNext.{cons_parts}
-use Rattle.justfile_spans.specs.Cuts.{depth_after, is_cut, line_after}
-use Rattle.justfile_spans.specs.PartTables.{IsCutOff, IsTested, depth_from, depth_past, line_from, line_past}
-use Rattle.justfile_spans.proofs.CutTests.{cut_by, depth_grows, levels_are, line_is}
+use Rattle.justfile_chunks.specs.Cuts.{depth_after, is_cut, line_after}
+use Rattle.justfile_chunks.specs.PartTables.{IsCutOff, IsTested, depth_from, depth_past, line_from, line_past}
+use Rattle.justfile_chunks.proofs.CutTests.{cut_by, depth_grows, levels_are, line_is}
 
 -- ---- the tokens of a table
 

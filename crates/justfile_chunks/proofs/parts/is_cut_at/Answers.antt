@@ -1,6 +1,6 @@
 use Rattle.std.proofs.Common.{◌∙◌, arith}
-use Rattle.justfile_spans.proofs.PartTables.{known_next}
-use Rattle.justfile_spans.proofs.parts.is_cut_at.Goals as goal
+use Rattle.justfile_chunks.proofs.PartTables.{known_next}
+use Rattle.justfile_chunks.proofs.parts.is_cut_at.Goals as goal
 
 pub loop-token-preserved : goal.loop-token-preserved
 loop-token-preserved c =

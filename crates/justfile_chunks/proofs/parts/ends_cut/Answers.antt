@@ -1,6 +1,6 @@
 use Rattle.std.proofs.Common.{◌≡◌, ◌∙◌, [], ◌∷◌, ◌++◌, sym}
-use Rattle.justfile_spans.proofs.PartTables.{tested}
-use Rattle.justfile_spans.proofs.parts.ends_cut.Goals as goal
+use Rattle.justfile_chunks.proofs.PartTables.{tested}
+use Rattle.justfile_chunks.proofs.parts.ends_cut.Goals as goal
 
 pub returns : goal.returns
 returns c h =

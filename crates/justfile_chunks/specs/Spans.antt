@@ -4,7 +4,7 @@ use Rattle.std.specs.Str.{IsCharBoundary}
 use Rattle.justfile_token.specs.Slice.{slice_of}
 use Rattle.justfile_model.specs.Lexing.Tok.{Tok}
 use Rattle.justfile_chunks.specs.Chunks.{AreParts, chunk_texts}
-use Rattle.justfile_spans.specs.declared.span.Span.{Span}
+use Rattle.justfile_chunks.specs.declared.span.Span.{Span}
 
 -- the span from one offset up to another one
 abbrev pub span : (start end : ℕ) → Span

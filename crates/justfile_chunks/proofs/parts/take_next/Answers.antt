@@ -1,8 +1,8 @@
 use Rattle.std.proofs.Common.{◌-◌, ◌∙◌, ap, refl, subst}
 use Rattle.std.specs.List.{remove}
-use Rattle.justfile_spans.specs.PartTables.{IsTested}
-use Rattle.justfile_spans.proofs.PartTables.{cut_off, ends_once}
-use Rattle.justfile_spans.proofs.parts.take_next.Goals as goal
+use Rattle.justfile_chunks.specs.PartTables.{IsTested}
+use Rattle.justfile_chunks.proofs.PartTables.{cut_off, ends_once}
+use Rattle.justfile_chunks.proofs.parts.take_next.Goals as goal
 
 pub returns-clause-cut_off : goal.returns-clause-cut_off
 returns-clause-cut_off c h text tokens utf8 lexed marked =

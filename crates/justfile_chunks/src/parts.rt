@@ -6,8 +6,8 @@ ghost use Rattle.justfile_model.specs.Lexing.BlankLines.{is_blank_or_line_end};
 ghost use Rattle.justfile_model.specs.Lexing.Lexed.{Lexed};
 ghost use Rattle.justfile_model.specs.Lexing.SignificantTokens.{significant_of, significant_tokens};
 ghost use Rattle.justfile_model.specs.Lexing.Tok.{Tok};
-ghost use Rattle.justfile_spans.specs.Cuts.{depth_after, is_cut};
-ghost use Rattle.justfile_spans.specs.PartTables.{IsCutOff, IsLineStart, IsTested, depth_past, line_past};
+ghost use Rattle.justfile_chunks.specs.Cuts.{depth_after, is_cut};
+ghost use Rattle.justfile_chunks.specs.PartTables.{IsCutOff, IsLineStart, IsTested, depth_past, line_past};
 
 use crate::cuts::{depth_after, is_cut_before, line_after};
 use justfile_token::Token;

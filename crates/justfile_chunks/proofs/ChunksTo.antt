@@ -10,11 +10,11 @@ use Rattle.justfile_model.specs.Lexing.Lexed.{Lexed}
 use Rattle.justfile_model.specs.Lexing.Modes.{mode}
 use Rattle.justfile_model.specs.Lexing.Tok.{Tok, tok_of}
 use Rattle.justfile_chunks.specs.Chunks.{AreParts, IsCut, Parts, line_kind, next_kind}
-use Rattle.justfile_spans.specs.declared.span.Span.{Span}
-use Rattle.justfile_spans.specs.Cuts.{depth_after, is_cut, line_after}
-use Rattle.justfile_spans.specs.Spans.{AreChunks, end_after, span}
-use Rattle.justfile_spans.proofs.CutTests.{cut_by, cut_holds, depth_grows, levels_are, line_is}
-use Rattle.justfile_spans.proofs.PartSpans.{are_chunks, end_last, end_of_parts, end_push, spans_from, spans_push}
+use Rattle.justfile_chunks.specs.declared.span.Span.{Span}
+use Rattle.justfile_chunks.specs.Cuts.{depth_after, is_cut, line_after}
+use Rattle.justfile_chunks.specs.Spans.{AreChunks, end_after, span}
+use Rattle.justfile_chunks.proofs.CutTests.{cut_by, cut_holds, depth_grows, levels_are, line_is}
+use Rattle.justfile_chunks.proofs.PartSpans.{are_chunks, end_last, end_of_parts, end_push, spans_from, spans_push}
 
 -- What is known before the token of an index: the parts that are done, of which these are the spans, and the tokens of the current one. With
 -- parts of the tokens from there on, of which the first one goes on with the current one, they are parts of all tokens.

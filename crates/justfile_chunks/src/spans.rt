@@ -3,7 +3,7 @@ ghost use Rattle.std.specs.Prelude.{ℕ, List, map, IfOk};
 ghost use Rattle.std.specs.Str.{IsUtf8};
 ghost use Rattle.justfile_model.specs.Lexing.Lexed.{Lexed};
 ghost use Rattle.justfile_model.specs.Lexing.Tok.{tok_of};
-ghost use Rattle.justfile_spans.specs.Spans.{AreChunks};
+ghost use Rattle.justfile_chunks.specs.Spans.{AreChunks};
 
 use crate::cuts::{depth_after, is_cut, line_after};
 use crate::span::Span;

@@ -1,5 +1,0 @@
-pub mod CutTests
-pub mod ChunksTo
-pub mod PartFeeds
-pub mod PartTables
-pub mod PartSpans

@@ -1,3 +1,0 @@
-pub mod Cuts
-pub mod PartTables
-pub mod Spans
