@@ -97,6 +97,16 @@ impl<'a> Lines<'a> {
         last_up_to(encoding, text, start, end, position.column)
     }
 
+    /// Returns the positions of two offsets, at which a part of the text begins and ends.
+    pub fn positions(&self, encoding: Encoding, start: usize, end: usize) -> (Position, Position)
+        requires starts { IsCharBoundary self.now.text.now start }
+        requires ends { IsCharBoundary self.now.text.now end }
+        ensures starts { IsOffset encoding self.now.text.now result.0 start }
+        ensures ends { IsOffset encoding self.now.text.now result.1 end }
+    {
+        (self.position(encoding, start), self.position(encoding, end))
+    }
+
     /// Returns the place of an offset. If it follows a known place in a line, the text between the two
     /// is gone along, and otherwise the line from where it begins.
     pub fn place(&self, encoding: Encoding, known: Place, offset: usize) -> Place
