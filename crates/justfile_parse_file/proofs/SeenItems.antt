@@ -23,7 +23,7 @@ use Rattle.justfile_vocabulary.specs.declared.list_feature.ListFeature.{ListFeat
 use Rattle.justfile_model.proofs.Readers.Counters.{count, parameters_recipes, after_parameters}
 use Rattle.justfile_model.proofs.Relations.Related as a
 use Rattle.justfile_model.proofs.Relations.Related.{AlikeItem, Each, Alike, AlikeDependency, AlikeDependencyArgument, AlikeOption, AlikeParameter, AlikeParameters, absent, present, AlikeAll, AlikeNames, AlikeQuoted, AlikeValue}
-use Rattle.justfile_setting.specs.Setting.{Content, ExpressionContent, HasDerivedContent, IndentationContent, InterpreterContent, PlainContent, TruthContent, content_by, content_of, expression_by, interpreter_by, keyword_of, literal_by}
+use Rattle.justfile_setting.specs.Setting.{Content as SettingContent, ExpressionContent, HasDerivedContent, IndentationContent, InterpreterContent, PlainContent, TruthContent, content_by, content_of, expression_by, interpreter_by, keyword_of, literal_by}
 use Rattle.justfile_expression.specs.LeafTree.{Assigned, AssignmentName, Headed, Leaf, RecipeName, Named, leaf_tree_of, Literal, literal_of, trees_of}
 use Rattle.justfile_attribute.specs.New.{HasDerivedAttributeFields}
 use Rattle.justfile_attribute_set.specs.AttributeSet as sets
@@ -230,11 +230,11 @@ module _ (conditions : Conditions) (bound : ℕ) (IsToken : Token → Type 0) (f
       ((λ j. tree.Interpreter (x.same j) (y.0 j)), (x.given, y.1))
 
   -- what a setting has beside its name, by the tree of its value
-  record SeenContent (c : Content) (v : SettingValue Tok Tok) : Type 0 where
+  record SeenContent (c : SettingContent) (v : SettingValue Tok Tok) : Type 0 where
     same : v ≡ content_by expr_of exprs_of literal_tok c
     given : HasDerivedContent c → IsFilledContent conditions.expander IsToken c
 
-  content_seen : (c : Content) {v : SettingValue Tok Tok} → AlikeValue seen (content_by leaf_tree_of trees_of (λ l. Literal (literal_of l)) c) v → SeenContent c v
+  content_seen : (c : SettingContent) {v : SettingValue Tok Tok} → AlikeValue seen (content_by leaf_tree_of trees_of (λ l. Literal (literal_of l)) c) v → SeenContent c v
   content_seen (TruthContent value) a.truth = record { same = refl; given = λ fields. tt }
   content_seen (ExpressionContent value) h = let x = value_seen value h in record { same = x.0; given = λ fields. x.1 }
   content_seen (InterpreterContent i) h = let x = command_seen i h in record { same = x.0; given = λ fields. x.1 }
