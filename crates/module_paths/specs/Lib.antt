@@ -1,1 +1,2 @@
+pub mod Justfiles
 pub mod Modules
