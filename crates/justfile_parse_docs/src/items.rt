@@ -23,9 +23,21 @@ use justfile_token::Expander;
 use justfile_vocabulary::TokenKind;
 use std::alloc::Global;
 
-/// In most files an item has this many tokens or more, line ends among the items counted. The list
-/// of items begins with room by it.
+/// In most files an item has this many tokens or more, line ends among the items counted.
 const TOKENS_OF_AN_ITEM: usize = 8;
+
+/// In files of short items an item has this many tokens.
+const TOKENS_OF_A_SHORT_ITEM: usize = 2;
+
+/// For how many short items there is room at first.
+const SHORT_ITEMS: usize = 8192;
+
+/// Returns for how many items a list has room at first, by the number of tokens. Room that isn't used
+/// takes none of the system's memory, and moving many items to more room takes long.
+fn first_room(tokens: usize) -> usize {
+    let few = (tokens / TOKENS_OF_A_SHORT_ITEM).min(SHORT_ITEMS);
+    few.max(tokens / TOKENS_OF_AN_ITEM)
+}
 
 /// Parses the items up to the end of the file, and moves the comment before each into its doc.
 /// Requires that no expression is open.
@@ -46,7 +58,7 @@ pub fn parse_items<'src, X: Expander>(
     ensures moved { CountersMoved numerator.old numerator.new
         (identifiers (map significant_of (state_of X.answer parser.old).left)) }
 {
-    let mut items = Vec::with_capacity(parser.alloc, parser.tokens.len() / TOKENS_OF_AN_ITEM)?;
+    let mut items = Vec::with_capacity(parser.alloc, first_room(parser.tokens.len()))?;
     'lines: loop {
         if let Some(_end) = parser.accept(TokenKind::Eof) {
             expect_nothing(parser)?;
