@@ -330,13 +330,13 @@ impl<'src> Lexer<'src> {
     }
 }
 
-/// Returns an empty table with room for the tokens of a text: one token for eight bytes, but at most
+/// Returns an empty table with room for the tokens of a text: one token for each byte, but at most
 /// 16,384 tokens, so that a long text with few tokens asks for little.
 #[inline(never)]
 fn new_table<'src>(alloc: Global, src: &str) -> Result<Vec<(Token<'src>, bool)>, AllocError>
     ensures { IfOk result (λ table. table.items ≡ []) }
 {
-    Vec::with_capacity(alloc, (src.len() / 8).min(16_384))
+    Vec::with_capacity(alloc, src.len().min(16_384))
 }
 
 /// Whether a token of the kind that begins with this byte is known to have no line feed. The other
