@@ -3,6 +3,7 @@ pub mod Folders
 pub mod Folding
 pub mod Found
 pub mod Offered
+pub mod Placed
 pub mod Renamed
 pub mod Spoilt
 pub mod Told

@@ -13,6 +13,7 @@ use crate::fixes::fixes;
 use crate::formats::{format, format_range};
 use crate::lenses::lenses;
 use crate::names::{definition, highlights, hover, references, rename, replaceable};
+use crate::problems::problems_told;
 use crate::renames::is_right;
 use crate::shown::Shown;
 use crate::signatures::signature;
@@ -36,11 +37,12 @@ pub fn diagnostics(
     ensures { IfOk result (λ found. map told found.items
         ≡ all_to_tell encoding text.now problems.now findings.now) }
 {
-    if problems.is_empty() && findings.is_empty() {
-        return Ok(Vec::new(alloc));
+    let found = problems_told(alloc, encoding, text, problems)?;
+    if findings.is_empty() {
+        return Ok(found);
     }
     let shown = Shown::new(alloc, encoding, text)?;
-    shown.diagnostics(alloc, problems, findings)
+    shown.with_findings(found, findings)
 }
 
 /// Returns the answer to what is asked for about a text, of which this is known. It is that of the

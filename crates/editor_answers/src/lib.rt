@@ -11,6 +11,7 @@ mod fixes;
 mod formats;
 mod lenses;
 mod names;
+mod problems;
 mod renames;
 mod shown;
 mod signatures;

@@ -1,14 +1,14 @@
 //! What is known of a text, as an editor is shown it.
-ghost use Rattle.std.specs.Prelude.{◌≡◌, ◌≤◌, ◌++◌, IfOk, OnOk, filter, length, map, option_map};
+ghost use Rattle.std.specs.Prelude.{◌≡◌, ◌≤◌, ◌++◌, IfOk, OnOk, filter, length, map, option_map, take};
 ghost use Rattle.std.specs.List.{filter_map};
 ghost use Rattle.std.specs.Option.{option_to_list};
 ghost use Rattle.editor_answers.specs.Links.{pointed, to_point};
 ghost use Rattle.justfile_lines.specs.Positions.{IsOffset, IsPlace};
 ghost use Rattle.editor_language.specs.Mentions.{is_like};
-ghost use Rattle.editor_answers.specs.Ranges.{all_to_tell, beside, fold_of, highlight_of, last_line_of, position_of, range_of, shown, to_find, to_place, to_show, to_tell, told};
+ghost use Rattle.editor_answers.specs.Ranges.{beside, fold_of, highlight_of, last_line_of, most_found, position_of, range_of, shown, to_find, to_place, to_show, told};
 
 use crate::addresses::address;
-use editor_language::{FileLink, Finding, Item, Mention, OtherPlace, Problem, Span, is_like};
+use editor_language::{FileLink, Finding, Item, Mention, OtherPlace, Span, is_like};
 use editor_messages::{Diagnostic, Fold, Highlight, Link, Related, Symbol};
 use justfile_lines::{Encoding, Lines, Place, Position};
 use std::alloc::{AllocError, Global};
@@ -134,38 +134,19 @@ impl<'a> Shown<'a> {
         Ok(highlights)
     }
 
-    /// Returns what is wrong in the text: its problems, and then the first of its findings.
-    pub(crate) fn diagnostics(
+    /// Returns what else is told of the text, and then the first of its findings.
+    pub(crate) fn with_findings(
         &self,
-        alloc: Global,
-        problems: &[Problem],
+        others: Vec<Diagnostic>,
         findings: &[Finding],
     ) -> Result<Vec<Diagnostic>, AllocError>
-        ensures { IfOk result (λ found. map told found.items ≡ all_to_tell
-            self.now.encoding self.now.lines.text.now problems.now findings.now) }
+        ensures { IfOk result (λ found. map told found.items ≡ map told others.items
+            ++ map (to_find self.now.encoding self.now.lines.text.now) (take most_found findings.now)) }
     {
         let (first, _) = findings.split_at(MOST_FOUND.min(findings.len()));
-        let mut diagnostics = Vec::new(alloc);
-        for problem in problems {
-            diagnostics.push(self.diagnostic(problem)?)?;
-        }
+        let mut diagnostics = others;
         self.push_found(first, &mut diagnostics)?;
         Ok(diagnostics)
-    }
-
-    /// Returns something that is wrong.
-    fn diagnostic(&self, problem: &Problem) -> Result<Diagnostic, AllocError>
-        ensures { IfOk result (λ found. told found
-            ≡ to_tell self.now.encoding self.now.lines.text.now problem.now) }
-    {
-        let message = problem.message.clone()?;
-        let range = self.range(problem.span);
-        Ok(Diagnostic {
-            range,
-            message,
-            code: "",
-            related: None,
-        })
     }
 
     /// Appends findings.

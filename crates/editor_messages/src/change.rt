@@ -34,8 +34,8 @@ pub fn changed_text(
     ensures { IfOk result
         (λ made. AreApplied encoding text.now changes.now (string_bytes made)) }
 {
-    let mut made = String::from_str(alloc, text)?;
-    let mut done = 0;
+    let mut done = TOGETHER.min(changes.len());
+    let mut made = after_changes(alloc, encoding, text, &changes[..done])?;
     'changes: while done < changes.len() {
         let end = done + TOGETHER.min(changes.len() - done);
         made = after_changes(alloc, encoding, made.as_str(), &changes[done..end])?;

@@ -2,6 +2,7 @@
 ghost use Rattle.std.specs.Prelude.{◌≡◌, ◌+◌, ◌<◌, ◌≤◌, ◌-◌, ℕ, false, length, take};
 ghost use Rattle.std.specs.Str.{IsCharBoundary, IsUtf8};
 ghost use Rattle.justfile_lines.specs.declared.encoding.Encoding.{Encoding};
+ghost use Rattle.justfile_lines.specs.Positions.{IsPlace};
 ghost use Rattle.justfile_lines.specs.Going.{IsBefore, IsInText, IsUpTo, after_byte, after_size, first_place, is_past, longest, place_after, size_between};
 
 use crate::encoding::Encoding;
@@ -52,6 +53,25 @@ impl Place {
                 column: width(encoding, last),
             },
         }
+    }
+
+    /// Returns the place of an offset of a text that isn't before this place: the text between the two is
+    /// gone along.
+    pub fn on_to(self, encoding: Encoding, text: &str, offset: usize) -> Place
+        requires order { self.offset ≤ offset }
+        requires within { offset ≤ length text.now }
+        requires place { IsPlace encoding text.now self }
+        ensures offset { result.offset ≡ offset }
+        ensures is { IsPlace encoding text.now result }
+    {
+        let (before, _) = text.as_bytes().split_at(offset);
+        let (_, between) = before.split_at(self.offset);
+        let (line, last) = last_line(between);
+        let column = width(encoding, last);
+        self.after_size(Place {
+            offset: between.len(),
+            position: Position { line, column },
+        })
     }
 
     /// Returns the place after a text with a size that begins at this one.

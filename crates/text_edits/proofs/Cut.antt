@@ -13,13 +13,13 @@ use Rattle.justfile_lines.specs.declared.encoding.Encoding.{Encoding}
 use Rattle.justfile_lines.specs.declared.position.Place.{Place}
 use Rattle.justfile_lines.specs.declared.position.Position.{Position}
 use Rattle.justfile_lines.proofs.Ahead.{after_its_size, all_in_text, first_in_text, offset_found, offset_is, past_further, place-append, size_is}
-use Rattle.text_edits.specs.Pieces.{AreSized, Leads, text_after, text_before, text_of}
+use Rattle.text_edits.specs.Pieces.{AreSized, HasSize, Leads, text_after, text_before, text_of}
 use Rattle.text_edits.specs.declared.pieces.Next.{Next}
 use Rattle.text_edits.specs.declared.pieces.Piece.{Piece}
 
 -- ---- sizes
 
-pub sized_more : (encoding : Encoding) (after next : List Next) (p : Next) → next ≡ after ++ p ∷ [] → AreSized encoding after → p.size ≡ place_after encoding first_place p.text.now
+pub sized_more : (encoding : Encoding) (after next : List Next) (p : Next) → next ≡ after ++ p ∷ [] → AreSized encoding after → HasSize encoding p
     → AreSized encoding next
 sized_more encoding after next p e h k = subst (AreSized encoding) (sym e) (go after h)
   where
@@ -27,10 +27,13 @@ sized_more encoding after next p e h k = subst (AreSized encoding) (sym e) (go a
     go [] h = (k, tt)
     go (q ∷ after) h = (h.0, go after h.1)
 
-pub sized_less : (encoding : Encoding) (after rest : List Next) (p : Next) → after ≡ rest ++ p ∷ [] → AreSized encoding after → AreSized encoding rest × (p.size ≡ place_after encoding first_place p.text.now)
+pub none_sized : (encoding : Encoding) (after : List Next) → after ≡ [] → AreSized encoding after
+none_sized encoding after none = subst (AreSized encoding) (sym none) tt
+
+pub sized_less : (encoding : Encoding) (after rest : List Next) (p : Next) → after ≡ rest ++ p ∷ [] → AreSized encoding after → AreSized encoding rest × HasSize encoding p
 sized_less encoding after rest p e h = go rest (subst (AreSized encoding) e h)
   where
-    go : (rest : List Next) → AreSized encoding (rest ++ p ∷ []) → AreSized encoding rest × (p.size ≡ place_after encoding first_place p.text.now)
+    go : (rest : List Next) → AreSized encoding (rest ++ p ∷ []) → AreSized encoding rest × HasSize encoding p
     go [] h = (tt, h.0)
     go (q ∷ rest) h = let it = go rest h.1 in ((h.0, it.0), it.1)
 

@@ -1,5 +1,5 @@
 -- Texts in pieces, with a place between two of them.
-use Rattle.std.specs.Prelude.{◌≡◌, ◌≤◌, ℕ, List, [], ◌∷◌, ◌++◌, length, reverse}
+use Rattle.std.specs.Prelude.{◌≡◌, ◌≤◌, ℕ, List, [], ◌∷◌, ◌++◌, IfSome, None, Option, Some, length, reverse}
 use Rattle.std.specs.Coded.{Coded, Coded-set, Unit-prop, ×_prop}
 use Rattle.std.specs.List.{flat_map}
 use Rattle.std.specs.Str.{IsUtf8}
@@ -26,12 +26,16 @@ abbrev pub Leads : Encoding → Place → List Piece → Place → Type 0
 Leads encoding from [] to = to ≡ from
 Leads encoding from (p ∷ pieces) to = (p.start ≡ from) × Leads encoding (place_after encoding from p.text.now) pieces to
 
--- Each of these pieces has its size.
+-- the size that a piece has is its own, if it has one
+abbrev pub HasSize : Encoding → Next → Type 0
+HasSize encoding p = IfSome p.size (λ size. size ≡ place_after encoding first_place p.text.now)
+
+-- The sizes that these pieces have are their own.
 abbrev pub AreSized : Encoding → List Next → Type 0
 AreSized encoding [] = Unit {0}
-AreSized encoding (p ∷ after) = (p.size ≡ place_after encoding first_place p.text.now) × AreSized encoding after
+AreSized encoding (p ∷ after) = HasSize encoding p × AreSized encoding after
 
--- The pieces before the place lead to it, those after it have their sizes, and the text has so many bytes.
+-- The pieces before the place lead to it, the sizes of those after it are their own, and the text has so many bytes.
 pub record ArePieces (encoding : Encoding) (before : List Piece) (after : List Next) (here : Place) (len : ℕ) : Type 0 where
   pub leads : Leads encoding first_place before here
   pub sized : AreSized encoding after
@@ -43,9 +47,13 @@ prop_leads : Coded Place → (encoding : Encoding) (from : Place) (pieces : List
 prop_leads code encoding from [] to = Coded-set code to from
 prop_leads code encoding from (p ∷ pieces) to = ×_prop (Coded-set code p.start from) (prop_leads code encoding (place_after encoding from p.text.now) pieces to)
 
+prop_size : Coded Place → (is : Place) (size : Option Place) → IsProp (IfSome size (λ s. s ≡ is))
+prop_size code is None = Unit-prop
+prop_size code is (Some s) = Coded-set code s is
+
 prop_sized : Coded Place → (encoding : Encoding) (after : List Next) → IsProp (AreSized encoding after)
 prop_sized code encoding [] = Unit-prop
-prop_sized code encoding (p ∷ after) = ×_prop (Coded-set code p.size (place_after encoding first_place p.text.now)) (prop_sized code encoding after)
+prop_sized code encoding (p ∷ after) = ×_prop (prop_size code (place_after encoding first_place p.text.now) p.size) (prop_sized code encoding after)
 
 pub prop_pieces : Coded Place → (encoding : Encoding) (before : List Piece) (after : List Next) (here : Place) (len : ℕ) → IsProp (ArePieces encoding before after here len)
 prop_pieces code encoding before after here len = hlevel (props, prop_leads code encoding first_place before here, prop_sized code encoding after)

@@ -3,7 +3,7 @@ ghost use Rattle.std.specs.Prelude.{◌≡◌, ◌+◌, ◌≤◌, ◌++◌, [],
 ghost use Rattle.std.specs.Str.{IsCharBoundary, IsUtf8};
 ghost use Rattle.justfile_lines.specs.Going.{IsUpTo, first_place, is_past, longest, place_after};
 ghost use Rattle.justfile_lines.specs.Positions.{IsOffset};
-ghost use Rattle.text_edits.specs.Pieces.{ArePieces, AreSized, Leads, prop_pieces, text_after, text_before, text_of};
+ghost use Rattle.text_edits.specs.Pieces.{ArePieces, AreSized, HasSize, Leads, prop_pieces, text_after, text_before, text_of};
 ghost use Rattle.text_edits.specs.Replaced.{IsReplaced};
 
 use crate::edit::Range;
@@ -29,6 +29,15 @@ struct Piece<'a> {
 /// A part of a text that comes next.
 #[derive(Clone, Copy)]
 struct Next<'a> {
+    /// What it is.
+    text: &'a str,
+    /// Its size, if it is known: it is found when the piece is passed.
+    size: Option<Place>,
+}
+
+/// A part of a text with its size.
+#[derive(Clone, Copy)]
+struct Measured<'a> {
     /// What it is.
     text: &'a str,
     /// Its size.
@@ -64,7 +73,7 @@ impl<'a> Pieces<'a> {
     {
         let len = sum(0, text.len())?;
         let mut after = Vec::new(alloc);
-        push_parts(&mut after, encoding, text)?;
+        push_parts(&mut after, text)?;
         Ok(Pieces {
             encoding,
             before: Vec::new(alloc),
@@ -96,8 +105,8 @@ impl<'a> Pieces<'a> {
         let here = seek(&mut before, &mut after, encoding, end, range.start)?;
         let taken = end.offset.saturating_sub(here.offset);
         let len = sum(len - taken, new.len())?;
-        skip(&mut after, encoding, taken)?;
-        push_parts(&mut after, encoding, new)?;
+        skip(&mut after, taken)?;
+        push_parts(&mut after, new)?;
         Ok(Pieces {
             encoding,
             before,
@@ -141,42 +150,44 @@ fn sum(first: usize, second: usize) -> Result<usize, AllocError>
 }
 
 /// Cuts a text into pieces, and puts them before those that come next.
-fn push_parts<'a>(
-    after: &mut Vec<Next<'a>>,
-    encoding: Encoding,
-    text: &'a str,
-) -> Result<(), AllocError>
-    requires short { length text.now ≤ longest }
-    requires sized { AreSized encoding after.old.items }
+fn push_parts<'a>(after: &mut Vec<Next<'a>>, text: &'a str) -> Result<(), AllocError>
     ensures text { OnOk result
         (text_after after.new.items ≡ text.now ++ text_after after.old.items) }
-    ensures sized { OnOk result (AreSized encoding after.new.items) }
+    ensures sized { OnOk result ((encoding : Encoding)
+        → AreSized encoding after.old.items → AreSized encoding after.new.items) }
 {
     let mut rest = text;
     while rest.len() > PIECE {
         let cut = rest.floor_char_boundary(rest.len() - PIECE);
         let (front, back) = rest.split_at(cut);
-        push_next(after, encoding, back)?;
+        push_next(after, back)?;
         rest = front;
     }
-    push_next(after, encoding, rest)
+    push_next(after, rest)?;
+    Ok(())
 }
 
 /// Puts a piece before those that come next.
-fn push_next<'a>(
-    after: &mut Vec<Next<'a>>,
-    encoding: Encoding,
-    text: &'a str,
-) -> Result<(), AllocError>
-    requires short { length text.now ≤ longest }
-    requires sized { AreSized encoding after.old.items }
+fn push_next<'a>(after: &mut Vec<Next<'a>>, text: &'a str) -> Result<(), AllocError>
     ensures text { OnOk result
         (text_after after.new.items ≡ text.now ++ text_after after.old.items) }
-    ensures sized { OnOk result (AreSized encoding after.new.items) }
+    ensures sized { OnOk result ((encoding : Encoding)
+        → AreSized encoding after.old.items → AreSized encoding after.new.items) }
 {
-    let size = Place::size_of(encoding, text);
-    after.push(Next { text, size })?;
+    after.push(Next { text, size: None })?;
     Ok(())
+}
+
+/// Returns the size of a piece.
+fn size_of(encoding: Encoding, piece: Next<'_>) -> Place
+    requires short { length piece.text.now ≤ longest }
+    requires sized { HasSize encoding piece }
+    ensures { result ≡ place_after encoding first_place piece.entry.text.now }
+{
+    match piece.size {
+        Some(size) => size,
+        None => Place::size_of(encoding, piece.text),
+    }
 }
 
 /// Goes to the offset of a position.
@@ -226,7 +237,7 @@ fn go_back<'a>(
         };
         after.push(Next {
             text: piece.text,
-            size: here.size_from(piece.start),
+            size: Some(here.size_from(piece.start)),
         })?;
         here = piece.start;
     }
@@ -254,8 +265,11 @@ fn go_on<'a>(
 {
     let mut here = here;
     'pieces: while let Some(piece) = after.pop() {
-        let beyond = here.after_size(piece.size);
+        let size = size_of(encoding, piece);
+        let beyond = here.after_size(size);
         if beyond.is_past(position) {
+            let text = piece.text;
+            let piece = Measured { text, size };
             return go_into(before, after, encoding, here, position, piece);
         }
         push_passed(before, piece.text, here)?;
@@ -271,7 +285,7 @@ fn go_into<'a>(
     encoding: Encoding,
     here: Place,
     position: Position,
-    piece: Next<'a>,
+    piece: Measured<'a>,
 ) -> Result<Place, AllocError>
     requires leads { Leads encoding first_place before.old.items here }
     requires sized { AreSized encoding after.old.items }
@@ -292,7 +306,10 @@ fn go_into<'a>(
     let (passed, rest) = piece.text.split_at(there.offset - here.offset);
     let size = here.after_size(piece.size).size_from(there);
     push_passed(before, passed, here)?;
-    after.push(Next { text: rest, size })?;
+    after.push(Next {
+        text: rest,
+        size: Some(size),
+    })?;
     Ok(there)
 }
 
@@ -315,13 +332,12 @@ fn push_passed<'a>(
 }
 
 /// Takes out so many bytes of what comes next.
-fn skip<'a>(after: &mut Vec<Next<'a>>, encoding: Encoding, count: usize) -> Result<(), AllocError>
-    requires bound { IsCharBoundary (text_after after.old.items) count }
-    requires short { length (text_after after.old.items) ≤ longest }
-    requires sized { AreSized encoding after.old.items }
+fn skip<'a>(after: &mut Vec<Next<'a>>, count: usize) -> Result<(), AllocError>
+    requires { IsCharBoundary (text_after after.old.items) count }
     ensures text { OnOk result
         (text_after after.new.items ≡ drop count (text_after after.old.items)) }
-    ensures sized { OnOk result (AreSized encoding after.new.items) }
+    ensures sized { OnOk result ((encoding : Encoding)
+        → AreSized encoding after.old.items → AreSized encoding after.new.items) }
 {
     let mut left = count;
     'pieces: while left > 0 {
@@ -330,7 +346,8 @@ fn skip<'a>(after: &mut Vec<Next<'a>>, encoding: Encoding, count: usize) -> Resu
         };
         if left < piece.text.len() {
             let (_, rest) = piece.text.split_at(left);
-            return push_next(after, encoding, rest);
+            push_next(after, rest)?;
+            return Ok(());
         }
         left -= piece.text.len();
     }

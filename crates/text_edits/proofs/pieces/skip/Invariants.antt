@@ -1,14 +1,13 @@
-use Rattle.std.proofs.Common.{◌≡◌, ◌≤◌, drop, length}
+use Rattle.std.proofs.Common.{◌≡◌, drop, length}
 use Rattle.std.specs.Str.{IsCharBoundary}
-use Rattle.justfile_lines.specs.Going.{longest}
+use Rattle.justfile_lines.specs.declared.encoding.Encoding.{Encoding}
 use Rattle.text_edits.specs.Pieces.{AreSized, text_after}
 use Rattle.text_edits.proofs.pieces.skip.Given as goal
 
 abbrev pub invariant-pieces : goal.invariant-pieces
 invariant-pieces l = record {
   same : drop l.left (text_after l.after.items) ≡ drop l.fn.count (text_after l.fn.after.items);
-  sized : AreSized l.fn.encoding l.after.items;
-  short : length (text_after l.after.items) ≤ longest;
+  sized : (encoding : Encoding) → AreSized encoding l.fn.after.items → AreSized encoding l.after.items;
   bound : IsCharBoundary (text_after l.after.items) l.left;
 }
 

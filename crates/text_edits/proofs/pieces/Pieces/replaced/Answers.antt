@@ -1,28 +1,17 @@
-use Rattle.std.proofs.Common.{◌≡◌, ◌∙◌, ◌++◌, ◌-◌, ℕ, List, drop, sym, ap, subst, length, length-append, arith}
+use Rattle.std.proofs.Common.{◌≡◌, ◌∙◌, ◌++◌, ◌-◌, ℕ, List, drop, sym, ap, subst, arith}
 use Rattle.std.specs.Str.{IsCharBoundary}
 use Rattle.justfile_lines.specs.Positions.{IsOffset}
 use Rattle.text_edits.specs.Pieces.{text_after, text_before}
 use Rattle.text_edits.proofs.Cut.{cut_bound, put_in, put_length, put_utf8}
 use Rattle.text_edits.proofs.pieces.Pieces.replaced.Goals as goal
 
-pub skip-requires-clause-bound : goal.skip-requires-clause-bound
-skip-requires-clause-bound c =
+pub skip-requires : goal.skip-requires
+skip-requires c =
     let split = c.in_ok-here.ensures.same ∙ c.in_ok-end.ensures.same in
     let begins = (subst (λ (t : List ℕ). IsOffset c.args.self.encoding t c.args.range.start c.in_ok-here.here.offset) c.in_ok-end.ensures.same c.in_ok-here.ensures.offset).boundary in
     subst (IsCharBoundary (text_after c.seek-2.new.after.items)) (sym c.saturating_sub-taken.ensures)
     (cut_bound (text_before c.seek-2.new.before.items) (text_after c.seek-2.new.after.items) _ c.in_ok-here.here.offset c.in_ok-end.end.offset split (sym c.in_ok-here.ensures.count) begins
     c.in_ok-end.ensures.offset.boundary)
-
-pub skip-requires-clause-short : goal.skip-requires-clause-short
-skip-requires-clause-short c =
-    let split = c.in_ok-here.ensures.same ∙ c.in_ok-end.ensures.same in
-    omega (
-      arith,
-      ap length split,
-      length-append (text_before c.seek-2.new.before.items) (text_after c.seek-2.new.after.items),
-      c.args.self.are_pieces.len_is,
-      c.args.self.are_pieces.short,
-    )
 
 pub invariant_of-result : goal.invariant_of-result
 invariant_of-result c =
@@ -42,7 +31,7 @@ invariant_of-result c =
     record {
       are_pieces = record {
         leads = c.in_ok-here.ensures.leads;
-        sized = c.in_ok-push_parts.ensures.sized;
+        sized = c.in_ok-push_parts.ensures.sized c.args.self.encoding (c.in_ok-skip.ensures.sized c.args.self.encoding c.in_ok-here.ensures.sized);
         utf8 = put_utf8 front back _ s e split is c.args.new.now next put c.args.self.are_pieces.utf8 c.utf8.new begins ends;
         len_is = omega (
           arith,
