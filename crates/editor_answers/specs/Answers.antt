@@ -10,6 +10,7 @@ use Rattle.editor_messages.specs.declared.error_code.ErrorCode.{ErrorCode}
 use Rattle.editor_messages.specs.declared.error_code.ErrorCode.TheVariants.{InvalidParams, RequestFailed}
 use Rattle.editor_messages.specs.declared.message.Query.{Query}
 use Rattle.editor_messages.specs.declared.message.Query.TheVariants as queries
+use Rattle.editor_language.specs.Items.{OfItems}
 use Rattle.editor_language.specs.declared.mention.Mention.{Mention}
 use Rattle.editor_language.specs.declared.parts.Analysis.{Analysis}
 use Rattle.editor_language.specs.declared.parts.Choices.{Choices}
@@ -107,8 +108,8 @@ module _ (knows : List ℕ → Analysis → Type 0) (mentioned : List ℕ → An
   -- at a position is about its mentions in the text; a new name is put in the place of each of these and nowhere else, and changes no other one; the links, what can be written
   -- at a position, what sets right what is wrong in a range, what is called at a position, and what can be run, are those of the language. What other answers hold is left open.
   abbrev pub IsAnswer : (formats : List ℕ → List ℕ → Type 0) (unformatted names : List ℕ → Type 0) (linked : Option (List ℕ) → List ℕ → Analysis → List FileLink → Type 0) (completed : List ℕ → List Mention → ℕ → Choices → Type 0) (fixed : List ℕ → List ℕ → Analysis → List QuickFix → Type 0) (signed : List ℕ → List Mention → ℕ → Option Signature → Type 0) (runs : List ℕ → Analysis → List Run → Type 0) → Query → Answer → Type 0
-  IsAnswer formats unformatted names linked completed fixed signed runs queries.Symbols answer = ShowsItems encoding text analysis.items.items answer
-  IsAnswer formats unformatted names linked completed fixed signed runs queries.Folds answer = ShowsFolds encoding text analysis.items.items answer
+  IsAnswer formats unformatted names linked completed fixed signed runs queries.Symbols answer = OfItems analysis.parts.items (λ items. ShowsItems encoding text items answer)
+  IsAnswer formats unformatted names linked completed fixed signed runs queries.Folds answer = OfItems analysis.parts.items (λ items. ShowsFolds encoding text items answer)
   IsAnswer formats unformatted names linked completed fixed signed runs queries.Format answer = Formats formats unformatted encoding text answer
   IsAnswer formats unformatted names linked completed fixed signed runs (queries.FormatRange range) answer = FormatsRange formats unformatted encoding text answer
   IsAnswer formats unformatted names linked completed fixed signed runs (queries.Definition position) answer = Tells (queries.Definition position) answer

@@ -1,6 +1,7 @@
 //! Answers about a text.
 ghost use Rattle.std.specs.Prelude.{◌≡◌, IfErr, IfOk, IsOkUnless, map};
 ghost use Rattle.editor_messages.specs.declared.message.Query.TheVariants.{Rename};
+ghost use Rattle.editor_language.specs.Items.{OfItems};
 ghost use Rattle.editor_answers.specs.Answers.{Completes, FailsFor, Hovers, IsAbout, IsAnswer, IsRefused, Lacks, LacksName, Offers, RefusesName, Replaces, ShowsFolds, ShowsItems, Tells};
 ghost use Rattle.editor_answers.specs.Links.{LinksIn};
 ghost use Rattle.editor_answers.specs.Ranges.{all_to_tell, told};
@@ -17,7 +18,7 @@ use crate::problems::problems_told;
 use crate::renames::is_right;
 use crate::shown::Shown;
 use crate::signatures::signature;
-use editor_language::{Analysis, Choices, Finding, Language, Mention, Problem};
+use editor_language::{Analysis, Choices, Finding, Language, Mention, Problem, items_of};
 use editor_messages::{Answer, Completions, Diagnostic, ErrorCode, Query};
 use justfile_lines::{Encoding, Position};
 use std::alloc::{AllocError, Global};
@@ -115,21 +116,23 @@ fn answer_of<L: Language>(
 
 /// Returns the symbols of a text.
 fn symbols(alloc: Global, shown: &Shown<'_>, analysis: &Analysis) -> Result<Answer, Failure>
-    ensures ok { IfOk result (ShowsItems shown.now.encoding shown.now.lines.text.now
-        analysis.now.items.items) }
+    ensures ok { IfOk result (λ answer. OfItems analysis.now.parts.items (λ items.
+        ShowsItems shown.now.encoding shown.now.lines.text.now items answer)) }
     ensures failed { IsOkUnless result Failure.Memory }
 {
-    let symbols = shown.symbols(alloc, &analysis.items)?;
+    let items = items_of(alloc, &analysis.parts)?;
+    let symbols = shown.symbols(alloc, &items)?;
     Ok(Answer::Symbols(symbols))
 }
 
 /// Returns what can be folded in a text.
 fn folds(alloc: Global, shown: &Shown<'_>, analysis: &Analysis) -> Result<Answer, Failure>
-    ensures ok { IfOk result (ShowsFolds shown.now.encoding shown.now.lines.text.now
-        analysis.now.items.items) }
+    ensures ok { IfOk result (λ answer. OfItems analysis.now.parts.items (λ items.
+        ShowsFolds shown.now.encoding shown.now.lines.text.now items answer)) }
     ensures failed { IsOkUnless result Failure.Memory }
 {
-    let folds = shown.folds(alloc, &analysis.items)?;
+    let items = items_of(alloc, &analysis.parts)?;
+    let folds = shown.folds(alloc, &items)?;
     Ok(Answer::Folds(folds))
 }
 

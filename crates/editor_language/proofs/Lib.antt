@@ -1,1 +1,2 @@
 pub mod Likes
+pub mod Lists

@@ -2,10 +2,12 @@
 //! what its names mean.
 #![tactic(auto)]
 
+mod items;
 mod language;
 mod mention;
 mod parts;
 
+pub use items::items_of;
 pub use language::Language;
 pub use mention::{Mention, Role, definition_of, is_like, mention_at, mentions_like, same_scope};
 pub use parts::{

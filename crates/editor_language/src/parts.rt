@@ -64,10 +64,8 @@ pub struct Item {
 pub struct Analysis {
     /// What is wrong.
     pub problems: Vec<Problem>,
-    /// The items, in their order.
-    pub items: Vec<Item>,
-    /// The parts of the text, each with what is known of it by itself. After a change, those that it
-    /// doesn't concern are kept.
+    /// The parts of the text, each with what is known of it by itself: its items are those of the text.
+    /// After a change, those that it doesn't concern are kept.
     pub parts: Vec<Part<Known>>,
 }
 

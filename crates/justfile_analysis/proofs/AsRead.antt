@@ -11,7 +11,8 @@ use Rattle.justfile_ast.specs.declared.ast.Ast.{Ast}
 use Rattle.justfile_canonical.specs.Root.{conditions}
 use Rattle.editor_language.specs.declared.parts.Known.{Known}
 use Rattle.editor_language.specs.declared.parts.PartProblem.{PartProblem}
-use Rattle.justfile_analysis.specs.InText.{AreToldAs, ProblemAt, moved_offset, problem_at, problems_from}
+use Rattle.editor_language.specs.Items.{moved_offset}
+use Rattle.justfile_analysis.specs.InText.{AreToldAs, ProblemAt, problem_at, problems_from}
 use Rattle.justfile_analysis.specs.Knowledge.{AreOfFiles, RightLaw, all_read_as, read_as}
 use Rattle.justfile_analysis.specs.Parts as parts
 use Rattle.justfile_analysis.specs.Parts.{IsPartOf, IsRight}

@@ -5,7 +5,8 @@ use Rattle.text_parts.specs.declared.part.Part.{Part}
 use Rattle.editor_language.specs.declared.parts.Known.{Known}
 use Rattle.editor_language.specs.declared.parts.PartProblem.{PartProblem}
 use Rattle.editor_language.specs.declared.parts.Problem.{Problem}
-use Rattle.justfile_analysis.specs.InText.{AreToldAs, IsToldAt, ProblemAt, moved_offset, problems_from, problem_at}
+use Rattle.editor_language.specs.Items.{moved_offset}
+use Rattle.justfile_analysis.specs.InText.{AreToldAs, IsToldAt, ProblemAt, problems_from, problem_at}
 
 -- one more
 told_push : (rs : List ProblemAt) (ps : List Problem) (r : ProblemAt) (p : Problem) → AreToldAs rs ps → IsToldAt r.base r.problem p → AreToldAs (rs ++ r ∷ []) (ps ++ p ∷ [])

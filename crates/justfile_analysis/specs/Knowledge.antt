@@ -1,5 +1,5 @@
 -- What is known of a text.
-use Rattle.std.specs.Prelude.{◌≡◌, ℕ, ◌+◌, Bool, true, false, List, [], ◌∷◌, map, length}
+use Rattle.std.specs.Prelude.{◌≡◌, ℕ, ◌+◌, Bool, true, false, List, [], ◌∷◌, length}
 use Rattle.text_parts.specs.Parts.{AreParts, before}
 use Rattle.text_parts.specs.declared.part.Part.{Part}
 use Rattle.justfile_ast.specs.Ast.{features_of, tree_of}
@@ -7,15 +7,13 @@ use Rattle.justfile_ast.specs.declared.ast.Ast.{Ast}
 use Rattle.justfile_canonical.specs.Root.{conditions}
 use Rattle.editor_language.specs.declared.parts.Analysis.{Analysis}
 use Rattle.editor_language.specs.declared.parts.Known.{Known}
-use Rattle.justfile_analysis.specs.InText.{AreTold, all_shown}
+use Rattle.justfile_analysis.specs.InText.{AreTold}
 use Rattle.justfile_analysis.specs.Parts.{IsPartOf, IsRight}
 use Rattle.justfile_analysis.specs.RightParts.{IsJoined, Read, chunks_of}
-use Rattle.justfile_analysis.specs.Shown.{shown}
 
--- The text is cut into these parts. Its items are theirs, and its problems those of the parts that are wrong.
+-- The text is cut into these parts, and its problems are those of the parts that are wrong.
 pub record Knows (text : List ℕ) (a : Analysis) : Type 0 where
   pub are_parts : AreParts IsPartOf true text a.parts.items
-  pub items_are : map shown a.items.items ≡ all_shown 0 a.parts.items
   pub problems_are : AreTold a.parts.items a.problems.items
 
 -- what a part was read as, by its file

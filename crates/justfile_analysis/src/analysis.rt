@@ -5,7 +5,7 @@ ghost use Rattle.justfile_analysis.specs.Knowledge.{Knows, RightLaw};
 ghost use Rattle.justfile_analysis.specs.Parts.{IsPartOf};
 
 use crate::cut::JustfileCut;
-use crate::in_text::{items_in_text, problems_in_text};
+use crate::in_text::problems_in_text;
 use editor_language::{Analysis, Known};
 use std::alloc::{AllocError, Global};
 use text_parts::{Part, parts_after, parts_of};
@@ -44,13 +44,8 @@ pub fn analysis_after(
 fn analysis_with(alloc: Global, text: &str, parts: Vec<Part<Known>>) -> Result<Analysis, AllocError>
     ensures { AreParts IsPartOf true text.now parts.items → IfOk result (Knows text.now) }
 {
-    let items = items_in_text(alloc, &parts)?;
     let problems = problems_in_text(alloc, text, &parts)?;
-    Ok(Analysis {
-        problems,
-        items,
-        parts,
-    })
+    Ok(Analysis { problems, parts })
 }
 
 /// Without problems the text is a justfile, and the items are those of its tree.

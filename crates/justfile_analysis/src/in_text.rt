@@ -1,68 +1,13 @@
-//! What is known of the parts of a justfile, where it is in the text.
-ghost use Rattle.std.specs.Prelude.{◌≡◌, ◌++◌, ◌-◌, IfOk, OnOk, map};
-ghost use Rattle.justfile_analysis.specs.InText.{AreTold, IsToldAt, all_shown, moved_span, moved_shown, shown_in};
-ghost use Rattle.justfile_analysis.specs.Shown.{shown};
+//! The problems of the parts of a justfile, where they are in the text.
+ghost use Rattle.std.specs.Prelude.{◌-◌, IfOk};
+ghost use Rattle.justfile_analysis.specs.InText.{AreTold, IsToldAt};
 
 use crate::reading::read_start;
 use crate::rejection::message_after;
-use editor_language::{Item, Known, PartProblem, Problem, Span};
+use editor_language::{Known, PartProblem, Problem};
 use justfile_recovery::line_feeds;
 use std::alloc::{AllocError, Global};
 use text_parts::Part;
-
-/// Returns the items of the parts of a text, with their places in the text.
-pub(crate) fn items_in_text(alloc: Global, parts: &[Part<Known>]) -> Result<Vec<Item>, AllocError>
-    ensures { IfOk result (λ items. map shown items.items ≡ all_shown 0 parts.now) }
-{
-    let mut items = Vec::new(alloc);
-    let mut start = 0usize;
-    for part in parts {
-        push_items(&part.known, start, &mut items)?;
-        start = start.saturating_add(part.size);
-    }
-    Ok(items)
-}
-
-/// Adds the items of a part that begins at an offset.
-fn push_items(known: &Known, start: usize, items: &mut Vec<Item>) -> Result<(), AllocError>
-    ensures { OnOk result
-        (map shown items.new.items ≡ map shown items.old.items ++ shown_in start known.now) }
-{
-    let base = read_start(start);
-    for item in &known.items {
-        items.push(moved_item(item, base)?)?;
-    }
-    Ok(())
-}
-
-/// Returns an item of what was read from an offset on, with its places in the text.
-fn moved_item(item: &Item, base: usize) -> Result<Item, AllocError>
-    ensures { IfOk result (λ moved. shown moved ≡ moved_shown base (shown item.now)) }
-{
-    let name = item.name.clone()?;
-    let body = match item.body {
-        Some(span) => Some(moved_span(span, base)),
-        None => None,
-    };
-    Ok(Item {
-        name,
-        kind: item.kind,
-        is_link: item.is_link,
-        span: moved_span(item.span, base),
-        name_span: moved_span(item.name_span, base),
-        body,
-    })
-}
-
-/// Returns a span of what was read from an offset on, as it is in the text.
-fn moved_span(span: Span, base: usize) -> Span
-    ensures { result ≡ moved_span base span }
-{
-    Span {
-        start: base.saturating_add(span.start),
-        end: base.saturating_add(span.end),
-    }
-}
 
 /// How many line feeds are before an offset of a text, along which it goes.
 #[derive(Drop)]
@@ -128,7 +73,7 @@ fn problem_in_text(
         problem.message.clone()?
     };
     Ok(Problem {
-        span: moved_span(problem.span, base),
+        span: problem.span.moved(base),
         message,
     })
 }

@@ -4,6 +4,7 @@ use Rattle.justfile_ast.specs.declared.ast.Ast.{Ast}
 use Rattle.justfile_canonical.specs.Root.{IsRoot}
 use Rattle.justfile_mentions.specs.Mentions.{AreBoth, AreMentions, Noted, noted}
 use Rattle.justfile_analysis.specs.Parts.{IsNone}
+use Rattle.editor_language.specs.Items.{OfItems}
 use Rattle.editor_language.specs.declared.mention.Mention.{Mention}
 use Rattle.editor_language.specs.declared.parts.Analysis.{Analysis}
 use Rattle.editor_language.specs.declared.parts.Item.{Item}
@@ -64,4 +65,4 @@ AreMentioned text [] items mentions = AreInText text items mentions
 AreMentioned text (problem ∷ others) items mentions = AreInItems text items mentions
 
 abbrev pub Mentioned : (text : List ℕ) → Analysis → List Mention → Type 0
-Mentioned text analysis mentions = AreMentioned text analysis.problems.items analysis.items.items (map noted mentions)
+Mentioned text analysis mentions = OfItems analysis.parts.items (λ items. AreMentioned text analysis.problems.items items (map noted mentions))

@@ -2,7 +2,7 @@
 ghost use Rattle.std.specs.Prelude.{◌≡◌, ◌-◌};
 ghost use Rattle.justfile_server.specs.Links.{IsChunk, IsPart};
 
-use editor_language::{Analysis, Item, Mention, Span};
+use editor_language::{Analysis, Item, Mention, Span, items_of};
 use justfile_canonical::formatting::format_text;
 use justfile_canonical::reading::symbols;
 use justfile_outline::Symbol;
@@ -52,7 +52,8 @@ pub(crate) fn description_of(
     definition: &Mention,
 ) -> Result<String, AllocError> {
     let name = definition.name.as_str();
-    match item_at(&analysis.items, definition.span.start) {
+    let items = items_of(alloc, &analysis.parts)?;
+    match item_at(&items, definition.span.start) {
         Some(item) => item_description(alloc, chunk_text(text, item.span), name),
         None => format!(in alloc; "parameter {name}"),
     }

@@ -1,5 +1,6 @@
 //! Justfiles as a language.
 ghost use Rattle.std.specs.Prelude.{◌⊎◌};
+ghost use Rattle.editor_language.specs.Items.{OfItems};
 ghost use Rattle.justfile_canonical.specs.Formatting.{HasNone, IsFormatted, LacksNumbers};
 ghost use Rattle.justfile_mentions.specs.Names.{IsName};
 ghost use Rattle.justfile_analysis.specs.Knowledge.{Knows};
@@ -22,7 +23,7 @@ use crate::ranges::formatted_in;
 use crate::runs::runs_of;
 use editor_language::{
     Analysis, Choices, Colored, FileLink, Finding, Language, Mention, QuickFix, Replacement, Run,
-    Span,
+    Span, items_of,
 };
 use editor_messages::Signature;
 use justfile_analysis::{analysis_after, analysis_of};
@@ -54,7 +55,7 @@ impl<F: Folders> Language for Justfiles<'_, F> {
     ghost names = { IsName };
 
     ghost linked = { λ folder text analysis links.
-        Links (IsPathOf F.has folder text) analysis.items.items links };
+        OfItems analysis.parts.items (λ items. Links (IsPathOf F.has folder text) items links) };
 
     ghost completed = { AreChoices };
 
@@ -116,7 +117,8 @@ impl<F: Folders> Language for Justfiles<'_, F> {
         text: &str,
         analysis: &Analysis,
     ) -> Result<Vec<Mention>, AllocError> {
-        mentions_of(alloc, text, &analysis.problems, &analysis.items)
+        let items = items_of(alloc, &analysis.parts)?;
+        mentions_of(alloc, text, &analysis.problems, &items)
     }
 
     fn links(
@@ -126,7 +128,8 @@ impl<F: Folders> Language for Justfiles<'_, F> {
         text: &str,
         analysis: &Analysis,
     ) -> Result<Vec<FileLink>, AllocError> {
-        links_of(alloc, self.folders, folder, text, &analysis.items)
+        let items = items_of(alloc, &analysis.parts)?;
+        links_of(alloc, self.folders, folder, text, &items)
     }
 
     fn description(

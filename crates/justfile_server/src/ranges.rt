@@ -1,6 +1,6 @@
 //! Formatting of the items in a part of a text. The others may have errors.
 use crate::chunk::{chunk_start, chunk_text};
-use editor_language::{Analysis, Replacement, Span};
+use editor_language::{Analysis, Replacement, Span, items_of};
 use justfile_ast::Ast;
 use justfile_canonical::reading::{Query, query_root};
 use justfile_indentation::own_indentation;
@@ -54,8 +54,9 @@ pub(crate) fn formatted_in(
     span: Span,
 ) -> Result<Vec<Replacement>, AllocError> {
     let indentation = indentation_of(alloc, text)?;
+    let items = items_of(alloc, &analysis.parts)?;
     let mut replacements = Vec::new(alloc);
-    for item in &analysis.items {
+    for item in &items {
         if item.span.start < span.end && span.start < item.span.end {
             push_replacement(alloc, &mut replacements, text, item.span, indentation)?;
         }
