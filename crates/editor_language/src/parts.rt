@@ -1,4 +1,5 @@
 //! What a text consists of.
+use crate::mention::Mention;
 use editor_messages::{Completion, SymbolKind};
 use text_parts::Part;
 
@@ -64,8 +65,8 @@ pub struct Item {
 pub struct Analysis {
     /// What is wrong.
     pub problems: Vec<Problem>,
-    /// The parts of the text, each with what is known of it by itself: its items are those of the text.
-    /// After a change, those that it doesn't concern are kept.
+    /// The parts of the text, each with what is known of it by itself: the items and the mentions of the
+    /// text are theirs. After a change, those that it doesn't concern are kept.
     pub parts: Vec<Part<Known>>,
 }
 
@@ -75,6 +76,9 @@ pub struct Analysis {
 pub struct Known {
     /// The items, in their order.
     pub items: Vec<Item>,
+    /// Where names are defined and used, in the order of the text. The item in which alone a name is known
+    /// has its number among the items that were read.
+    pub mentions: Vec<Mention>,
     /// What is wrong, if something is.
     pub problem: Option<PartProblem>,
 }

@@ -9,12 +9,13 @@ use Rattle.text_parts.specs.Places.{IsLineStart, IsPartEnd}
 use Rattle.text_parts.specs.declared.part.Part.{Part}
 use Rattle.justfile_ast.specs.declared.ast.Ast.{Ast}
 use Rattle.justfile_canonical.specs.Root.{IsRoot}
+use Rattle.editor_language.specs.declared.mention.Mention.{Mention}
 use Rattle.editor_language.specs.declared.parts.Item.{Item}
 use Rattle.editor_language.specs.declared.parts.Known.{Known}
 use Rattle.editor_language.specs.declared.parts.PartProblem.{PartProblem}
 use Rattle.justfile_recovery.specs.Starts.{is_start}
 use Rattle.justfile_analysis.specs.Ends.{IsEnd, IsStop}
-use Rattle.justfile_analysis.specs.Parts.{AreBefore, AreItems, AreOfFront, IsFound, IsPartOf, IsRight, IsWrong, MayEnd, TellsWhy, read_of}
+use Rattle.justfile_analysis.specs.Parts.{AreBefore, AreOfFront, AreOfText, IsFound, IsPartOf, IsRight, IsWrong, MayEnd, TellsWhy, read_of}
 use Rattle.justfile_analysis.proofs.FoundParts.{at_end, seen_is}
 use Rattle.justfile_analysis.proofs.Starts.{begins, begins_line_at, start_in}
 
@@ -32,18 +33,18 @@ abbrev SeesEnd : (text : List ℕ) (start reach : ℕ) → Bool
 SeesEnd text start reach = sees_end (nat_eq start 0) reach (drop (start - 1) text)
 
 -- the items of the lines before another one, in what is read
-of_front : (text : List ℕ) (start reach line : ℕ) (items : List Item) → line ≤ start + reach → AreBefore text start line items → AreOfFront (Seen text start reach) items
-of_front text start reach line items h (inl none) = inl none
-of_front text start reach line items h (inr are) =
-    let same = sym (front text start line reach h) in
-    inr (line - (start - 1), are.0, subst (λ src. IsRoot (codes "justfile") src are.0) same are.1, subst (λ src. AreItems (length src) are.0 items) same are.2)
+of_front : (text : List ℕ) (start reach line : ℕ) (items : List Item) (mentions : List Mention) → line ≤ start + reach → AreBefore text start line items mentions
+    → AreOfFront (Seen text start reach) items mentions
+of_front text start reach line items mentions h (inl none) = inl none
+of_front text start reach line items mentions h (inr are) =
+    inr (line - (start - 1), subst (λ src. AreOfText src items mentions) (sym (front text start line reach h)) are)
 
 -- what is known of the file of the lines before another one
 pub of_lines : (text read : List ℕ) (start from line : ℕ) (known : Known) (ast : Ast) → from ≡ start - 1 → read ≡ slice_range text from line → IsRoot (codes "justfile") read ast
-    → IsRight (length read) ast known → AreBefore text start line known.items.items
+    → IsRight (length read) ast known → AreBefore text start line known.items.items known.mentions.items
 of_lines text read start from line known ast from_is read_is root right =
     let same : read ≡ read_of text start line = read_is ∙ ap (λ n. slice_range text n line) from_is in
-    inr (ast, subst (λ src. IsRoot (codes "justfile") src ast) same root, subst (λ src. AreItems (length src) ast known.items.items) same right.items_are)
+    inr (subst (λ src. AreOfText src known.items.items known.mentions.items) same (ast, root, right.items_are, right.mentions_are))
 
 -- ---- where a part ends
 
@@ -85,7 +86,7 @@ may_end text start reach end e read = by e.stop
 
 -- a part that is rejected up to an end is wrong
 wrong : (text : List ℕ) (start end next line : ℕ) (p : Part Known) (problem : PartProblem) → IsEnd text start end → TellsWhy (read_of text start end) problem
-    → next ≤ end → start + p.size ≡ next → p.known.problem ≡ Some problem → end < start + p.reach → line ≤ end → AreBefore text start line p.known.items.items
+    → next ≤ end → start + p.size ≡ next → p.known.problem ≡ Some problem → end < start + p.reach → line ≤ end → AreBefore text start line p.known.items.items p.known.mentions.items
     → IsWrong (nat_eq start 0) (Seen text start p.reach) (SeesEnd text start p.reach) p
 wrong text start end next line p problem e why within size is read l items = record {
   problem = problem;
@@ -94,12 +95,12 @@ wrong text start end next line p problem e why within size is read l items = rec
   may_end = may_end text start p.reach end e read;
   tells = subst (λ src. TellsWhy src problem) (sym (front text start end p.reach (omega (arith, read)))) why;
   size_within = omega (arith, before_at start, within, size, e.forward);
-  items_of_front = of_front text start p.reach line p.known.items.items (omega (arith, read, l)) items;
+  are_of_front = of_front text start p.reach line p.known.items.items p.known.mentions.items (omega (arith, read, l)) items;
 }
 
 -- a part that is rejected up to an end is the next one
 pub found : (text : List ℕ) (start end at line next : ℕ) (p : Part Known) (problem : PartProblem) → IsEnd text start end → TellsWhy (read_of text start end) problem → start ≤ at
-    → IsAfter text start end at next → start + p.size ≡ next → p.known.problem ≡ Some problem → end < start + p.reach → line ≤ at → AreBefore text start line p.known.items.items → IsFound text start p
+    → IsAfter text start end at next → start + p.size ≡ next → p.known.problem ≡ Some problem → end < start + p.reach → line ≤ at → AreBefore text start line p.known.items.items p.known.mentions.items → IsFound text start p
 found text start end at line next p problem e why from a size is read l items = record {
   next = IsPartOf.wrong (wrong text start end next line p problem e why a.within size is read (omega (arith, l, a.in_part)) items);
   ends = ends_at text start end at next p.size e from a size;

@@ -16,6 +16,8 @@ use Rattle.justfile_canonical.specs.Root.{HasNoRoot, IsRoot, conditions}
 use Rattle.justfile_recovery.specs.Starts.{is_start}
 use Rattle.justfile_survey.specs.Errors.{IsPlaceOf, names_lines}
 use Rattle.justfile_survey.specs.Items.{file_seen}
+use Rattle.justfile_mentions.specs.Mentions.{AreMentions, noted}
+use Rattle.editor_language.specs.declared.mention.Mention.{Mention}
 use Rattle.editor_language.specs.declared.parts.Item.{Item}
 use Rattle.editor_language.specs.declared.parts.Known.{Known}
 use Rattle.editor_language.specs.declared.parts.PartProblem.{PartProblem}
@@ -28,10 +30,15 @@ use Rattle.justfile_analysis.specs.declared.cut.Attempt.TheVariants.{Found, Furt
 abbrev pub AreItems : (length : ℕ) → Ast → List Item → Type 0
 AreItems length ast items = map shown items ≡ map to_show (file_seen length 0 ast)
 
--- nothing is wrong, and the items are those of a file
+-- these are the mentions in a file
+abbrev pub AreMentionedIn : Ast → List Mention → Type 0
+AreMentionedIn ast mentions = AreMentions 0 ast.items.items (map noted mentions)
+
+-- nothing is wrong, and the items and the mentions are those of a file
 pub record IsRight (length : ℕ) (ast : Ast) (known : Known) : Type 0 where
   pub none_wrong : known.problem ≡ None
   pub items_are : AreItems length ast known.items.items
+  pub mentions_are : AreMentionedIn ast known.mentions.items
 
 -- What is before the last byte of this was read up to that byte, and is a justfile by itself, of which this is known.
 pub record IsRead (src : List ℕ) (known : Known) : Type 0 where
@@ -75,11 +82,18 @@ pub record TellsWhy (text : List ℕ) (p : PartProblem) : Type 0 where
   pub no_root : HasNoRoot (codes "justfile") text fault
   pub is_of_fault : IsOfFault text fault p
 
--- the items are those of the beginning of what was read, which is a justfile by itself, or there are none
-abbrev pub AreOfFront : (seen : List ℕ) → List Item → Type 0
-AreOfFront seen items =
-    (items ≡ [])
-    ⊎ ((count : ℕ) × (ast : Ast) × IsRoot (codes "justfile") (take count seen) ast × AreItems (length (take count seen)) ast items)
+-- there are no items and no mentions
+abbrev pub AreNone : List Item → List Mention → Type 0
+AreNone items mentions = (items ≡ []) × (mentions ≡ [])
+
+-- the text is a justfile by itself, and the items and the mentions are its
+abbrev pub AreOfText : (text : List ℕ) → List Item → List Mention → Type 0
+AreOfText text items mentions =
+    (ast : Ast) × IsRoot (codes "justfile") text ast × AreItems (length text) ast items × AreMentionedIn ast mentions
+
+-- the items and the mentions are those of the beginning of what was read, which is a justfile by itself, or there are none
+abbrev pub AreOfFront : (seen : List ℕ) → List Item → List Mention → Type 0
+AreOfFront seen items mentions = AreNone items mentions ⊎ ((count : ℕ) × AreOfText (take count seen) items mentions)
 
 -- What was read may end after so many bytes: the text ends there, or an item may begin there.
 abbrev pub MayEnd : (seen : List ℕ) (sees_end : Bool) (count : ℕ) → Type 0
@@ -93,7 +107,7 @@ pub record IsWrong (is_first : Bool) (seen : List ℕ) (sees_end : Bool) (p : Pa
   pub may_end : MayEnd seen sees_end count
   pub tells : TellsWhy (take count seen) problem
   pub size_within : before is_first + p.size ≤ count
-  pub items_of_front : AreOfFront seen p.known.items.items
+  pub are_of_front : AreOfFront seen p.known.items.items p.known.mentions.items
 
 -- A part of a justfile, by what was read to find it. It was read up to the first byte of the next part, which begins at once on a line of its own; or up
 -- to the end of the text; or it is wrong.
@@ -119,8 +133,6 @@ IsAttempt text start end (Further further) = IsFurther text end further
 abbrev pub read_of : (text : List ℕ) (start end : ℕ) → List ℕ
 read_of text start end = slice_range text (start - 1) end
 
--- the items are those of the lines before another one, which are a justfile by themselves, or there are none
-abbrev pub AreBefore : (text : List ℕ) (start line : ℕ) → List Item → Type 0
-AreBefore text start line items =
-    (items ≡ [])
-    ⊎ ((ast : Ast) × IsRoot (codes "justfile") (read_of text start line) ast × AreItems (length (read_of text start line)) ast items)
+-- the items and the mentions are those of the lines before another one, which are a justfile by themselves, or there are none
+abbrev pub AreBefore : (text : List ℕ) (start line : ℕ) → List Item → List Mention → Type 0
+AreBefore text start line items mentions = AreNone items mentions ⊎ AreOfText (read_of text start line) items mentions

@@ -7,8 +7,10 @@ mod cut;
 mod ends;
 mod in_text;
 mod items;
+mod mentioned;
 mod reading;
 mod rejection;
 mod wrong;
 
 pub use analysis::{analysis_after, analysis_of, right_texts};
+pub use mentioned::mentions_of;

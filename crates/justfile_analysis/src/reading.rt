@@ -14,6 +14,7 @@ use justfile_ast::Ast;
 use justfile_canonical::reading::{Query, query_root, release};
 use justfile_canonical::{RECURSION_LIMIT, parse_part};
 use justfile_chunks::Span;
+use justfile_mentions::mentions;
 use justfile_numbers::Version;
 use justfile_recovery::without_blank_lines;
 use justfile_survey::items_of_file;
@@ -58,9 +59,11 @@ fn known_of(
 ) -> Result<Known, AllocError>
     ensures { IfOk result (IsRight (length text.now) ast.old) }
 {
+    let mentions = mentions(&ast.items, alloc)?;
     let found = items_of_file(ast, alloc, text, lines_of(text, is_later))?;
     Ok(Known {
         items: items_of(alloc, &found)?,
+        mentions,
         problem: None,
     })
 }

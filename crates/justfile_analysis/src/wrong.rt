@@ -2,12 +2,12 @@
 ghost use Rattle.std.specs.Prelude.{◌+◌, ◌<◌, ◌≤◌, IfOk, IfSome, length, min};
 ghost use Rattle.text_parts.specs.Places.{IsPartStart};
 ghost use Rattle.justfile_analysis.specs.Ends.{IsEnd, IsStop};
-ghost use Rattle.justfile_analysis.specs.Parts.{AreBefore, IsFound, TellsWhy, read_of};
+ghost use Rattle.justfile_analysis.specs.Parts.{AreBefore, AreNone, IsFound, TellsWhy, read_of};
 
 use crate::ends::{STEPS, first_end};
 use crate::reading::{KnownQuery, read_start};
 use crate::rejection::{Cause, Rejection, rejection_of};
-use editor_language::{Item, Known};
+use editor_language::Known;
 use justfile_canonical::reading::query_root;
 use justfile_recovery::{line_start, next_start};
 use justfile_token::Fault;
@@ -33,13 +33,14 @@ fn wrong_part(
     ensures { IfOk result (IsFound text.now start) }
 {
     let at = error_place(start, end, &rejection);
-    let items = items_before(alloc, text, start, line_of(text, start, at))?;
+    let before = known_before(alloc, text, start, line_of(text, start, at))?;
     let next = next_part(text.as_bytes(), start, at, end);
     Ok(Part {
         size: next - start,
         reach: reach_of(text, start, end, read),
         known: Known {
-            items,
+            items: before.items,
+            mentions: before.mentions,
             problem: Some(rejection.problem),
         },
     })
@@ -153,27 +154,34 @@ fn read_end(text: &str, end: usize, cause: Cause) -> usize
 
 /// Returns what is known of the lines of a part before the line of its error, if they are a justfile by
 /// themselves.
-fn items_before(
-    alloc: Global,
-    text: &str,
-    start: usize,
-    line: usize,
-) -> Result<Vec<Item>, AllocError>
-    ensures { IfOk result (λ items. AreBefore text.now start line items.items) }
+fn known_before(alloc: Global, text: &str, start: usize, line: usize) -> Result<Known, AllocError>
+    ensures { IfOk result (λ known.
+        AreBefore text.now start line known.items.items known.mentions.items) }
 {
     if line <= start {
-        return Ok(Vec::new(alloc));
+        return Ok(nothing(alloc));
     }
     let Some(read) = text.get(read_start(start)..line) else {
-        return Ok(Vec::new(alloc));
+        return Ok(nothing(alloc));
     };
     let query = KnownQuery {
         text: read,
         is_later: start > 0,
     };
     match query_root(alloc, "justfile", read, &query) {
-        Ok(known) => Ok(known.items),
+        Ok(known) => Ok(known),
         Err(Fault::Memory) => Err(AllocError),
-        Err(_) => Ok(Vec::new(alloc)),
+        Err(_) => Ok(nothing(alloc)),
+    }
+}
+
+/// Returns that nothing is known.
+fn nothing(alloc: Global) -> Known
+    ensures { AreNone result.items.items result.mentions.items }
+{
+    Known {
+        items: Vec::new(alloc),
+        mentions: Vec::new(alloc),
+        problem: None,
     }
 }

@@ -3,7 +3,6 @@ pub mod FindingsOfFile
 pub mod FixesOfFile
 pub mod Given
 pub mod Header
-pub mod ItemMentions
 pub mod Kept
 pub mod Linked
 pub mod Offered

@@ -5,6 +5,5 @@ pub mod Findings
 pub mod Fixes
 pub mod Headers
 pub mod Links
-pub mod Mentioned
 pub mod Runs
 pub mod Signs

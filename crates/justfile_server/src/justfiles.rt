@@ -4,11 +4,11 @@ ghost use Rattle.editor_language.specs.Items.{OfItems};
 ghost use Rattle.justfile_canonical.specs.Formatting.{HasNone, IsFormatted, LacksNumbers};
 ghost use Rattle.justfile_mentions.specs.Names.{IsName};
 ghost use Rattle.justfile_analysis.specs.Knowledge.{Knows};
+ghost use Rattle.justfile_analysis.specs.Mentioned.{AreMentioned};
 ghost use Rattle.justfile_server.specs.Choices.{AreChoices};
 ghost use Rattle.justfile_server.specs.Findings.{AreFound};
 ghost use Rattle.justfile_server.specs.Fixes.{AreFixesFor};
 ghost use Rattle.justfile_server.specs.Links.{IsPathOf, Links};
-ghost use Rattle.justfile_server.specs.Mentioned.{Mentioned};
 ghost use Rattle.justfile_server.specs.Runs.{AreRunsIn};
 ghost use Rattle.justfile_signatures.specs.Signatures.{IsSignature};
 
@@ -18,7 +18,6 @@ use crate::colors::colors_of;
 use crate::findings::findings_of;
 use crate::fixes::fixes_of;
 use crate::links::links_of;
-use crate::mentions::mentions_of;
 use crate::ranges::formatted_in;
 use crate::runs::runs_of;
 use editor_language::{
@@ -26,7 +25,7 @@ use editor_language::{
     Span, items_of,
 };
 use editor_messages::Signature;
-use justfile_analysis::{analysis_after, analysis_of};
+use justfile_analysis::{analysis_after, analysis_of, mentions_of};
 use justfile_canonical::fault::FormatFault;
 use justfile_canonical::formatting::format_text;
 use justfile_mentions::is_name;
@@ -50,7 +49,7 @@ impl<F: Folders> Language for Justfiles<'_, F> {
 
     ghost finds = { AreFound };
 
-    ghost mentioned = { Mentioned };
+    ghost mentioned = { λ text analysis mentions. AreMentioned analysis.parts.items mentions };
 
     ghost names = { IsName };
 
@@ -114,11 +113,10 @@ impl<F: Folders> Language for Justfiles<'_, F> {
     fn mentions(
         &self,
         alloc: Global,
-        text: &str,
+        _text: &str,
         analysis: &Analysis,
     ) -> Result<Vec<Mention>, AllocError> {
-        let items = items_of(alloc, &analysis.parts)?;
-        mentions_of(alloc, text, &analysis.problems, &items)
+        mentions_of(alloc, &analysis.parts)
     }
 
     fn links(

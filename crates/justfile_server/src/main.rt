@@ -13,7 +13,6 @@ mod fixes;
 mod headers;
 mod justfiles;
 mod links;
-mod mentions;
 mod ranges;
 mod runs;
 mod signs;

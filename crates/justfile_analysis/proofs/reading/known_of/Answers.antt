@@ -1,5 +1,6 @@
-use Rattle.std.proofs.Common.{◌∙◌, ap, map, refl, sym}
+use Rattle.std.proofs.Common.{◌∙◌, ap, map, refl, subst, sym}
 use Rattle.justfile_survey.specs.Seen.{seen}
+use Rattle.justfile_mentions.specs.Mentions.{AreMentions, noted}
 use Rattle.justfile_analysis.specs.Shown.{surveyed, to_show}
 use Rattle.justfile_analysis.proofs.Lists.{map_twice}
 use Rattle.justfile_analysis.proofs.reading.known_of.Goals as goal
@@ -12,4 +13,5 @@ returns c = record {
       ∙ ap (map surveyed) c.deref.ensures.value
       ∙ sym (map_twice to_show seen c.in_ok-found.found.items)
       ∙ ap (map to_show) c.in_ok-found.ensures;
+  mentions_are = subst (λ items. AreMentions 0 items (map noted c.in_ok-mentions.mentions.items)) c.deref.ensures.value c.in_ok-mentions.ensures;
 }

@@ -1,5 +1,5 @@
 use Rattle.justfile_analysis.proofs.WrongParts.{of_lines}
-use Rattle.justfile_analysis.proofs.wrong.items_before.Goals as goal
+use Rattle.justfile_analysis.proofs.wrong.known_before.Goals as goal
 
 pub returns-in-Ok : goal.returns-in-Ok
 returns-in-Ok c =
