@@ -1,5 +1,5 @@
 -- What is known of a text.
-use Rattle.std.specs.Prelude.{◌≡◌, ℕ, ◌+◌, Bool, true, false, List, [], ◌∷◌, length}
+use Rattle.std.specs.Prelude.{◌≡◌, ℕ, ◌+◌, Bool, true, false, List, [], ◌∷◌}
 use Rattle.text_parts.specs.Parts.{AreParts, before}
 use Rattle.text_parts.specs.declared.part.Part.{Part}
 use Rattle.justfile_ast.specs.Ast.{features_of, tree_of}

@@ -1,5 +1,5 @@
 -- The names that are found, one after the other.
-use Rattle.std.proofs.Common.{◌≡◌, ℕ, ◌+◌, ◌<◌, List, [], ◌∷◌, ◌++◌, length, take, get_or, map, Option, String, string_bytes, refl, sym, ap, subst, ◌∙◌, append-nil, append_assoc, Global}
+use Rattle.std.proofs.Common.{◌≡◌, ℕ, ◌+◌, ◌<◌, List, [], ◌∷◌, ◌++◌, length, take, get_or, Option, String, string_bytes, refl, sym, ap, subst, ◌∙◌, append-nil, append_assoc, Global}
 use Rattle.std.proofs.lemmas.List.{map-append}
 use Rattle.justfile_files.specs.Found.{LeadTo, names_at}
 use Rattle.justfile_files.specs.Request.{texts}

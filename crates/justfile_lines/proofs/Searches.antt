@@ -1,13 +1,13 @@
 -- Which line an offset is in.
-use Rattle.std.proofs.Common.{◌≡◌, ◌==◌, ℕ, ◌+◌, ◌-◌, ◌<◌, ◌≤◌, List, [], ◌∷◌, ◌++◌, length, take, drop, get_or, zero, suc, cond, refl, sym, ap, subst, ◌∙◌, arith, inl, inr}
+use Rattle.std.proofs.Common.{◌≡◌, ◌==◌, ℕ, ◌+◌, ◌-◌, ◌<◌, ◌≤◌, List, [], ◌∷◌, ◌++◌, length, take, drop, get_or, zero, suc, refl, sym, ap, subst, ◌∙◌, arith, inl, inr}
 use Rattle.std.specs.Str.{IsUtf8}
 use Rattle.memchr.specs.Find.{NoneBefore, Nowhere, Passes, is_byte}
 use Rattle.std.proofs.lemmas.Bool.{cases_lt, eq-eqb, eqb-true, ne_eqb}
-use Rattle.std.proofs.lemmas.List.{get_or-drop, get_or_append_left, get_or_default, get_or_push, drop_more, length-drop, length_push, take-append-drop, take_all}
-use Rattle.std.proofs.lemmas.List.Sums.{count_by_more_no, sum_by-append, sum_by-cons}
-use Rattle.justfile_lines.specs.Positions.{feeds, last_line, line_at}
+use Rattle.std.proofs.lemmas.List.{get_or-drop, get_or_append_left, get_or_default, get_or_push, length-drop, length_push, take_all}
+use Rattle.std.proofs.lemmas.List.Sums.{count_by_more_no}
+use Rattle.justfile_lines.specs.Positions.{feeds, line_at}
 use Rattle.justfile_lines.specs.Starts.{AreStarts, IsStart}
-use Rattle.justfile_lines.proofs.Columns.{last_after, line_at-le, line_before, lines_grow, start_after}
+use Rattle.justfile_lines.proofs.Columns.{line_at-le, line_before, lines_grow, start_after}
 
 -- an offset before the beginning of a line is in an earlier one
 pub line_below : (text : List ℕ) (line at offset : ℕ) → IsStart text line at → offset < at → line_at text offset < line
@@ -128,25 +128,3 @@ no_feeds text (suc n) h none =
 -- a text without a line feed is its last line
 pub only_line : (text : List ℕ) → Nowhere (Passes (is_byte 10) text) 0 (length text) → feeds text ≡ 0
 only_line text none = ap feeds (sym (take_all (length text) text (omega arith))) ∙ no_feeds text (length text) (omega arith) none
-
--- what follows the first line feed of a text has one line feed less, and the same last line
-module _ (text : List ℕ) (n : ℕ) (first : NoneBefore (Passes (is_byte 10) text) 0 (length text) n) (feed : Passes (is_byte 10) text n) where
-  cut : text ≡ take n text ++ 10 ∷ drop (n + 1) text
-  cut =
-      sym (take-append-drop n text)
-      ∙ ap (λ (l : List ℕ). take n text ++ l) (drop_more text n 0 first.high ∙ ap (λ (c : ℕ). c ∷ drop (n + 1) text) (eqb-true _ 10 feed))
-
-  pub feeds_past : feeds text ≡ 1 + feeds (rest_from text (n + 1))
-  feeds_past =
-      let f : ℕ → ℕ = λ (c : ℕ). cond (c == 10) 1 0 in
-      omega (
-        arith,
-        ap feeds cut,
-        sum_by-append f (take n text) (10 ∷ drop (n + 1) text),
-        sum_by-cons f 10 (drop (n + 1) text),
-        no_feeds text n (omega (arith, first.high)) first.before,
-        ap feeds (rest_is text (n + 1)),
-      )
-
-  pub last_past : last_line text ≡ last_line (rest_from text (n + 1))
-  last_past = ap last_line cut ∙ last_after (take n text) (drop (n + 1) text) ∙ ap last_line (sym (rest_is text (n + 1)))

@@ -323,9 +323,6 @@ module _ (front back old : List ℕ) (s e : ℕ) (split : front ++ back ≡ old)
           all,
         )
 
-pub short_rest : (after rest : List Next) (piece : Next) → after ≡ rest ++ piece ∷ [] → length (text_after after) ≤ longest → length (text_after rest) ≤ longest
-short_rest after rest piece e h = omega (arith, h, ap length (ap text_after e ∙ after_more rest piece) ∙ length-append piece.text.now (text_after rest))
-
 -- ---- pieces that are passed
 
 -- a whole piece is passed
