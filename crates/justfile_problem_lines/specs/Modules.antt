@@ -1,7 +1,7 @@
 -- The lines that tell what is wrong with the files of modules.
-use Rattle.std.specs.Prelude.{◌≡◌, ◌-◌, ◌&&◌, ◌||◌, ℕ, Bool, true, false, not, List, [], ◌∷◌, ◌++◌, IsPermutation, Option, None, Some, codes, cond, is_some, length, nat_eq, option_to_list, slice_get, String, unwrap_or}
+use Rattle.std.specs.Prelude.{◌≡◌, ◌-◌, ◌&&◌, ◌||◌, ℕ, Bool, true, false, not, List, [], ◌∷◌, ◌++◌, IsPermutation, Option, None, Some, codes, cond, is_some, length, nat_eq, option_to_list, slice_get, String, take, unwrap_or}
 use Rattle.std.specs.Global.{Global}
-use Rattle.std.specs.List.{AllZip, concat, flat_map, list_any}
+use Rattle.std.specs.List.{AllZip, concat, flat_map, list_any, position}
 use Rattle.std.specs.List.Sorted.{IsNonDecreasingBy}
 use Rattle.std.specs.Option.{option_map}
 use Rattle.std.specs.Str.{bytes_eq}
@@ -13,6 +13,7 @@ use Rattle.justfile_token.specs.Name.{name_text}
 use Rattle.justfile_token.specs.declared.name.Name.{Name}
 use Rattle.justfile_token.specs.declared.token.Token.{Token}
 use Rattle.justfile_problems.specs.Circular.{AreCirclesOf}
+use Rattle.justfile_problems.specs.Overridden.{is_overridden}
 use Rattle.justfile_problems.specs.Problems.{joined, problems_within}
 use Rattle.justfile_problems.specs.declared.circular.Circle.{Circle}
 use Rattle.justfile_problems.specs.declared.facts.Definition.{Definition}
@@ -106,20 +107,37 @@ module _ (files : List ModuleFile) where
   abbrev pub rules_in : (more : Bool) → (group : List ℕ) → Rules
   rules_in more group = joined more (flat_map rules_at group)
 
+-- the indices before a place, if there is one
+abbrev pub up_to : (group : List ℕ) → Option ℕ → List ℕ
+up_to group None = []
+up_to group (Some place) = take place group
+
+-- the place of an index among some
+abbrev pub place_in : (group : List ℕ) → (index : ℕ) → Option ℕ
+place_in group index = position (λ (other : ℕ). nat_eq other index) group
+
+-- The files of a module that come before one, each after those that import it or are imported earlier. What they define overrides what it defines.
+abbrev pub files_before : (group : List ℕ) → (index : ℕ) → List ℕ
+files_before group index = up_to group (place_in group index)
+
+-- whether the name at an offset of a file of a module is that of a recipe or a variable that is overridden, by that file or those before it
+abbrev pub is_overridden_at : List ModuleFile → (group : List ℕ) → (index : ℕ) → (offset : ℕ) → Bool
+is_overridden_at files group index = is_overridden (all_definitions files (files_before group index)) (definitions_at files index)
+
 -- all problems with these uses and the like of a file of a module, in the order of its text; the uses have the name of another module before theirs, or none
-pub record TellJudged (owner : Option Name) (rules : Rules) (all own : List Definition) (uses : List Use) (suspects : List Suspect) (source lines : List ℕ) : Type 0 where
+pub record TellJudged (owner : Option Name) (rules : Rules) (overridden : (offset : ℕ) → Bool) (all own : List Definition) (uses : List Use) (suspects : List Suspect) (source lines : List ℕ) : Type 0 where
   pub problems : List Problem
-  pub are : IsPermutation (problems_within rules all own uses suspects) problems
+  pub are : IsPermutation (problems_within rules overridden all own uses suspects) problems
   pub in_order : IsNonDecreasingBy (λ (p : Problem). p.token.offset) problems
   pub told : TellProblemsWithin owner source problems lines
 
 -- all problems of a file of a module with these definitions
-abbrev pub TellPart : (rules : Rules) (all : List Definition) → ModuleFile → (lines : List ℕ) → Type 0
-TellPart rules all f lines = TellJudged None rules all f.facts.definitions.items f.facts.uses.items f.facts.suspects.items f.source.now lines
+abbrev pub TellPart : (rules : Rules) (overridden : (offset : ℕ) → Bool) (all : List Definition) → ModuleFile → (lines : List ℕ) → Type 0
+TellPart rules overridden all f lines = TellJudged None rules overridden all f.facts.definitions.items f.facts.uses.items f.facts.suspects.items f.source.now lines
 
 -- those of the files with these indices, one after the other
 abbrev pub TellParts : (rules : Rules) (all : List Definition) → List ModuleFile → (group : List ℕ) → (lines : List ℕ) → Type 0
-TellParts rules all files group lines = TellEach (λ (index : ℕ) part. TellAny (TellPart rules all) (slice_get files index) part) group lines
+TellParts rules all files group lines = TellEach (λ (index : ℕ) part. TellAny (TellPart rules (is_overridden_at files group index) all) (slice_get files index) part) group lines
 
 -- ---- circles
 
@@ -172,13 +190,13 @@ pub record TellImports (files : List ModuleFile) (links : List Link) (lines : Li
 abbrev pub use_of : (owner : List ℕ) → Member → List Use
 use_of owner m = cond (bytes_eq (name_text m.owner) owner) (m.used ∷ []) []
 
--- all problems with the uses by a file of what a module with this name defines: they are judged as if that module had them
-abbrev pub TellMembers : (rules : Rules) (all : List Definition) (owner : Name) → ModuleFile → (lines : List ℕ) → Type 0
-TellMembers rules all owner f lines = TellJudged (Some owner) rules all [] (flat_map (use_of (name_text owner)) f.facts.members.items) [] f.source.now lines
+-- all problems with the uses by a file of what a module with this name defines: they are judged as if that module had them, except that items of the file are overridden
+abbrev pub TellMembers : (rules : Rules) (overridden : (offset : ℕ) → Bool) (all : List Definition) (owner : Name) → ModuleFile → (lines : List ℕ) → Type 0
+TellMembers rules overridden all owner f lines = TellJudged (Some owner) rules overridden all [] (flat_map (use_of (name_text owner)) f.facts.members.items) [] f.source.now lines
 
 -- those of the files with these indices
 abbrev pub TellMembersIn : (rules : Rules) (all : List Definition) (owner : Name) → List ModuleFile → (group : List ℕ) → (lines : List ℕ) → Type 0
-TellMembersIn rules all owner files group lines = TellEach (λ (index : ℕ) part. TellAny (TellMembers rules all owner) (slice_get files index) part) group lines
+TellMembersIn rules all owner files group lines = TellEach (λ (index : ℕ) part. TellAny (TellMembers rules (is_overridden_at files group index) all owner) (slice_get files index) part) group lines
 
 -- the first file of a module that one of the files with these indices has
 abbrev pub first_within : (group : List ℕ) → Link → Option ℕ

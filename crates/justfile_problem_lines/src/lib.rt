@@ -8,6 +8,7 @@ mod lines;
 mod links;
 mod members;
 mod module;
+mod overridden;
 mod rings;
 
 pub use crate::files::lines_of_files;

@@ -1,12 +1,16 @@
 //! The lines that tell what is wrong with uses of what modules define.
-ghost use Rattle.std.specs.Prelude.{◌≡◌, ◌++◌, IfOk, OnOk, slice_get, string_bytes};
+ghost use Rattle.std.specs.Prelude.{◌≡◌, ◌++◌, [], IfOk, OnOk, Some, slice_get, string_bytes};
 ghost use Rattle.std.specs.List.{flat_map};
-ghost use Rattle.justfile_problem_lines.specs.Modules.{TellAllMembers, TellAny, TellMembers, TellMembersAt, TellMembersIn, TellMembersOf, first_within, use_of};
+ghost use Rattle.justfile_problems.specs.Overridden.{is_overridden_in};
+ghost use Rattle.justfile_problem_lines.specs.Modules.{TellAllMembers, TellAny, TellJudged, TellMembers, TellMembersAt, TellMembersIn, TellMembersOf, first_within, is_overridden_at, use_of};
 
 use crate::groups::{first_of, group_of, is_among};
 use crate::lines::{append, problem_lines_within};
 use crate::module::{all_definitions, may_be_more, rules_in};
-use justfile_problems::{Definition, Link, Member, ModuleFile, Rules, Use, problems_within};
+use crate::overridden::overridden_at;
+use justfile_problems::{
+    Definition, Link, Member, ModuleFile, Overridden, Rules, Use, problems_within,
+};
 use justfile_token::Name;
 use std::alloc::{AllocError, Global};
 
@@ -91,7 +95,7 @@ fn members_of_files<'src>(
 {
     let mut lines = String::new(alloc);
     for index in group {
-        let part = members_at(alloc, rules, all, owner, files, *index)?;
+        let part = members_at(alloc, rules, all, owner, files, group, *index)?;
         append(&part, &mut lines)?;
     }
     Ok(lines)
@@ -104,31 +108,106 @@ fn members_at<'src>(
     all: &[Definition<'src>],
     owner: Name<'src>,
     files: &[ModuleFile<'src>],
+    group: &[usize],
     index: usize,
 ) -> Result<String, AllocError>
-    ensures { IfOk result (λ lines. TellAny (TellMembers rules all.now owner.entry)
+    ensures { IfOk result (λ lines.
+        TellAny (TellMembers rules (is_overridden_at files.now group.now index) all.now owner.entry)
         (slice_get files.now index) (string_bytes lines)) }
 {
     match files.get(index) {
-        Some(file) => members_in(alloc, rules, all, owner, file),
+        Some(file) => members_in(alloc, rules, all, owner, files, group, index, file),
         None => Ok(String::new(alloc)),
     }
 }
 
-/// Returns the lines of uses by a file.
+/// Returns the lines of uses by this file, which has that index.
 fn members_in<'src>(
     alloc: Global,
     rules: Rules,
     all: &[Definition<'src>],
     owner: Name<'src>,
+    files: &[ModuleFile<'src>],
+    group: &[usize],
+    index: usize,
     file: &ModuleFile<'src>,
 ) -> Result<String, AllocError>
-    ensures { IfOk result
-        (λ lines. TellMembers rules all.now owner.entry file.now (string_bytes lines)) }
+    ensures { IfOk result (λ lines. TellMembers rules (is_overridden_at files.now group.now index)
+        all.now owner.entry file.now (string_bytes lines)) }
 {
     let uses = uses_of(alloc, owner.lexeme(), &file.facts.members)?;
-    let problems = problems_within(alloc, rules, all, &[], &uses, &[])?;
-    problem_lines_within(alloc, file.source, Some(owner), &problems)
+    lines_of_uses(
+        alloc,
+        rules,
+        all,
+        owner,
+        files,
+        group,
+        index,
+        file.source,
+        &uses,
+    )
+}
+
+/// Returns the lines of these uses by the file with this index and this text. Which of its items are
+/// overridden is found out only if there are any.
+fn lines_of_uses<'src>(
+    alloc: Global,
+    rules: Rules,
+    all: &[Definition<'src>],
+    owner: Name<'src>,
+    files: &[ModuleFile<'src>],
+    group: &[usize],
+    index: usize,
+    source: &'src str,
+    uses: &[Use<'src>],
+) -> Result<String, AllocError>
+    ensures { IfOk result (λ lines. TellJudged (Some owner.entry) rules
+        (is_overridden_at files.now group.now index) all.now [] uses.now [] source.now
+        (string_bytes lines)) }
+{
+    match uses {
+        [] => Ok(String::new(alloc)),
+        [_, ..] => lines_of_some(alloc, rules, all, owner, files, group, index, source, uses),
+    }
+}
+
+/// Returns the same.
+fn lines_of_some<'src>(
+    alloc: Global,
+    rules: Rules,
+    all: &[Definition<'src>],
+    owner: Name<'src>,
+    files: &[ModuleFile<'src>],
+    group: &[usize],
+    index: usize,
+    source: &'src str,
+    uses: &[Use<'src>],
+) -> Result<String, AllocError>
+    ensures { IfOk result (λ lines. TellJudged (Some owner.entry) rules
+        (is_overridden_at files.now group.now index) all.now [] uses.now [] source.now
+        (string_bytes lines)) }
+{
+    let overridden = overridden_at(alloc, files, group, index)?;
+    judged_lines(alloc, rules, &overridden, all, owner, source, uses)
+}
+
+/// Returns the same, where these items are overridden.
+fn judged_lines<'src>(
+    alloc: Global,
+    rules: Rules,
+    overridden: &Overridden,
+    all: &[Definition<'src>],
+    owner: Name<'src>,
+    source: &'src str,
+    uses: &[Use<'src>],
+) -> Result<String, AllocError>
+    ensures { IfOk result (λ lines. TellJudged (Some owner.entry) rules
+        (is_overridden_in overridden.now) all.now [] uses.now [] source.now
+        (string_bytes lines)) }
+{
+    let problems = problems_within(alloc, rules, overridden, all, &[], uses, &[])?;
+    problem_lines_within(alloc, source, Some(owner), &problems)
 }
 
 /// Returns the uses of what the module with this name defines.

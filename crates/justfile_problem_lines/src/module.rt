@@ -1,12 +1,14 @@
 //! The lines that tell what is wrong with a module.
 ghost use Rattle.std.specs.Prelude.{◌≡◌, ◌++◌, IfOk, OnOk, option_copied, option_to_list, slice_get, string_bytes};
-ghost use Rattle.justfile_problem_lines.specs.Modules.{TellAny, TellCirclesOfFile, TellModule, TellModuleOf, TellPart, TellParts, all_definitions, definitions_at, definitions_of, is_settled, leads_to_more, may_be_more, rule_at, rules_in, shared_definitions};
+ghost use Rattle.justfile_problems.specs.Overridden.{is_overridden_in};
+ghost use Rattle.justfile_problem_lines.specs.Modules.{TellAny, TellCirclesOfFile, TellModule, TellModuleOf, TellPart, TellParts, all_definitions, definitions_at, definitions_of, is_overridden_at, is_settled, leads_to_more, may_be_more, rule_at, rules_in, shared_definitions};
 
 use crate::groups::{group_of, is_among};
 use crate::lines::{append, circle_lines, problem_lines};
 use crate::members::all_member_lines;
+use crate::overridden::overridden_at;
 use justfile_problems::{
-    Definition, Link, ModuleFile, Rules, Target, circles_of, joined, problems_within,
+    Definition, Link, ModuleFile, Overridden, Rules, Target, circles_of, joined, problems_within,
 };
 use std::alloc::{AllocError, Global};
 
@@ -194,7 +196,7 @@ fn parts<'src>(
 {
     let mut lines = String::new(alloc);
     for index in group {
-        let part = part_at(alloc, rules, all, files, *index)?;
+        let part = part_at(alloc, rules, all, files, group, *index)?;
         append(&part, &mut lines)?;
     }
     Ok(lines)
@@ -206,29 +208,51 @@ fn part_at<'src>(
     rules: Rules,
     all: &[Definition<'src>],
     files: &[ModuleFile<'src>],
+    group: &[usize],
     index: usize,
 ) -> Result<String, AllocError>
     ensures { IfOk result (λ lines.
-        TellAny (TellPart rules all.now) (slice_get files.now index) (string_bytes lines)) }
+        TellAny (TellPart rules (is_overridden_at files.now group.now index) all.now)
+        (slice_get files.now index) (string_bytes lines)) }
 {
     match files.get(index) {
-        Some(file) => part(alloc, rules, all, file),
+        Some(file) => part(alloc, rules, all, files, group, index, file),
         None => Ok(String::new(alloc)),
     }
 }
 
-/// Returns the lines that tell the problems of a file of a module.
+/// Returns the lines that tell the problems of this file of a module, which has that index.
 fn part<'src>(
     alloc: Global,
     rules: Rules,
     all: &[Definition<'src>],
+    files: &[ModuleFile<'src>],
+    group: &[usize],
+    index: usize,
     file: &ModuleFile<'src>,
 ) -> Result<String, AllocError>
-    ensures { IfOk result (λ lines. TellPart rules all.now file.now (string_bytes lines)) }
+    ensures { IfOk result (λ lines. TellPart rules (is_overridden_at files.now group.now index)
+        all.now file.now (string_bytes lines)) }
+{
+    let overridden = overridden_at(alloc, files, group, index)?;
+    judged_part(alloc, rules, &overridden, all, file)
+}
+
+/// Returns the same, where these items are overridden.
+fn judged_part<'src>(
+    alloc: Global,
+    rules: Rules,
+    overridden: &Overridden,
+    all: &[Definition<'src>],
+    file: &ModuleFile<'src>,
+) -> Result<String, AllocError>
+    ensures { IfOk result (λ lines. TellPart rules (is_overridden_in overridden.now) all.now
+        file.now (string_bytes lines)) }
 {
     let problems = problems_within(
         alloc,
         rules,
+        overridden,
         all,
         &file.facts.definitions,
         &file.facts.uses,

@@ -34,10 +34,14 @@ is_node d = is_node_in d.space d.kind
 abbrev pub has_node : List Definition → Key → Bool
 has_node ds k = list_any (λ d. is_node d && same (key_of d) k) ds
 
--- whether the name at an offset is that of a recipe or a variable that is defined again later: the last definition counts
-abbrev pub is_overridden : List Definition → (offset : ℕ) → Bool
-is_overridden [] offset = false
-is_overridden (d ∷ ds) offset = (nat_eq (offset_of d.name) offset && (is_node d && has_node ds (key_of d))) || is_overridden ds offset
+-- whether one of two lists has such a definition
+abbrev pub either_has : (later ds : List Definition) → Key → Bool
+either_has later ds k = has_node later k || has_node ds k
+
+-- Whether the name at an offset is that of one of these recipes and variables that is defined again: after it, or by those of other files that come later. The last definition counts.
+abbrev pub is_overridden : (later : List Definition) → List Definition → (offset : ℕ) → Bool
+is_overridden later [] offset = false
+is_overridden later (d ∷ ds) offset = (nat_eq (offset_of d.name) offset && (is_node d && either_has later ds (key_of d))) || is_overridden later ds offset
 
 -- ---- the sets
 
@@ -58,18 +62,18 @@ abbrev pub AreKeysOf : List Definition → Keys → Type 0
 AreKeysOf ds keys = (space : Space) (scope : ℕ) (text : List ℕ) → has_key keys (key space scope text) ≡ has_node ds (key space scope text)
 
 -- where those begin that later ones override
-abbrev pub AreOverridden : List Definition → Offsets → Type 0
-AreOverridden ds offsets = (offset : ℕ) → has_offset offsets offset ≡ is_overridden ds offset
+abbrev pub AreOverridden : (later : List Definition) → List Definition → Offsets → Type 0
+AreOverridden later ds offsets = (offset : ℕ) → has_offset offsets offset ≡ is_overridden later ds offset
 
 -- the key of a definition was added, if it is one of a recipe or a variable
 abbrev pub AddsKey : Definition → (old new : Keys) → Type 0
 AddsKey d old new =
     (space : Space) (scope : ℕ) (text : List ℕ) → has_key new (key space scope text) ≡ ((is_node d && same (key_of d) (key space scope text)) || has_key old (key space scope text))
 
--- the offset of a definition was added, if it is one of a recipe or a variable whose key is among later ones
-abbrev pub AddsOffset : Definition → (later : Keys) → (old new : Offsets) → Type 0
-AddsOffset d later old new =
-    (offset : ℕ) → has_offset new offset ≡ ((nat_eq (offset_of d.name) offset && (is_node d && has_key later (key_of d))) || has_offset old offset)
+-- the offset of a definition was added, if it is one of a recipe or a variable whose key is among those of other files or among later ones
+abbrev pub AddsOffset : Definition → (others later : Keys) → (old new : Offsets) → Type 0
+AddsOffset d others later old new =
+    (offset : ℕ) → has_offset new offset ≡ ((nat_eq (offset_of d.name) offset && (is_node d && (has_key others (key_of d) || has_key later (key_of d)))) || has_offset old offset)
 
 abbrev pub is_overridden_in : Overridden → (offset : ℕ) → Bool
 is_overridden_in overridden offset = has_offset overridden.offsets offset

@@ -225,7 +225,7 @@ module _ (rules : Rules) (known : Space → (scope : ℕ) → (text : List ℕ) 
 -- all that is wrong
 abbrev pub all_problems : Rules → List Definition → List Use → List Suspect → List Problem
 all_problems rules ds us ss =
-    definition_problems rules (first ds) ds ++ use_problems rules (first ds) (is_overridden ds) us ++ suspect_problems rules (first ds) ss
+    definition_problems rules (first ds) ds ++ use_problems rules (first ds) (is_overridden [] ds) us ++ suspect_problems rules (first ds) ss
 
 -- whether the files of a module share the names of a set: an item has its own, and what is compared by places is in one file
 abbrev pub is_shared : Space → Bool
@@ -241,10 +241,10 @@ shared_of d = cond (is_shared d.space) (d ∷ []) []
 abbrev pub within : (all own : List Definition) → List Definition
 within all own = flat_map shared_of all ++ own
 
--- All that is wrong with a file of a module. Its definitions are judged among themselves, and all else by what the module defines.
-abbrev pub problems_within : Rules → (all own : List Definition) → List Use → List Suspect → List Problem
-problems_within rules all own us ss =
-    definition_problems rules (first own) own ++ use_problems rules (first (within all own)) (is_overridden own) us ++ suspect_problems rules (first (within all own)) ss
+-- All that is wrong with a file of a module. Its definitions are judged among themselves, and all else by what the module defines; nothing is said of uses in items that are overridden.
+abbrev pub problems_within : Rules → (overridden : (offset : ℕ) → Bool) → (all own : List Definition) → List Use → List Suspect → List Problem
+problems_within rules overridden all own us ss =
+    definition_problems rules (first own) own ++ use_problems rules (first (within all own)) overridden us ++ suspect_problems rules (first (within all own)) ss
 
 -- what files allow together, where other ones may define names or not
 abbrev pub joined : (may_be_more : Bool) → List Rules → Rules

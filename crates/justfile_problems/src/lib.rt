@@ -26,4 +26,5 @@ pub use crate::facts::{
 };
 pub use crate::listing::problems;
 pub use crate::module::{joined, problems_within};
+pub use crate::overridden::Overridden;
 pub use crate::problem::{Problem, What};

@@ -1,9 +1,9 @@
 //! The problems of a file.
-ghost use Rattle.std.specs.Prelude.{◌≡◌, ◌++◌, IfOk, IsPermutation, OnOk, option_to_list};
+ghost use Rattle.std.specs.Prelude.{◌≡◌, ◌++◌, [], IfOk, IsPermutation, OnOk, option_to_list};
 ghost use Rattle.std.specs.List.Sorted.{IsNonDecreasingBy};
 ghost use Rattle.justfile_problems.specs.Names.{known};
 ghost use Rattle.justfile_problems.specs.Overridden.{is_overridden_in};
-ghost use Rattle.justfile_problems.specs.Problems.{all_problems, definition_problems, suspect_problems, use_problems};
+ghost use Rattle.justfile_problems.specs.Problems.{all_problems, definition_problems, problems_within, suspect_problems, use_problems};
 
 use crate::definitions::definition_problem;
 use crate::facts::{Definition, Rules, Suspect, Use};
@@ -31,11 +31,29 @@ pub fn problems<'src>(
     ensures in_order { IfOk result
         (λ found. IsNonDecreasingBy (λ p. p.token.offset) found.items) }
 {
+    let overridden = Overridden::of(alloc, &[], definitions)?;
+    problems_alone(alloc, rules, &overridden, definitions, uses, suspects)
+}
+
+/// Returns the problems of a file with these definitions that is alone. Of uses in items that are
+/// `overridden` nothing is said.
+pub(crate) fn problems_alone<'src>(
+    alloc: Global,
+    rules: Rules,
+    overridden: &Overridden,
+    definitions: &[Definition<'src>],
+    uses: &[Use<'src>],
+    suspects: &[Suspect<'src>],
+) -> Result<Vec<Problem<'src>>, AllocError>
+    ensures all { IfOk result (λ found. IsPermutation (problems_within rules
+        (is_overridden_in overridden.now) [] definitions.now uses.now suspects.now) found.items) }
+    ensures in_order { IfOk result
+        (λ found. IsNonDecreasingBy (λ p. p.token.offset) found.items) }
+{
     let names = Names::of(alloc, definitions)?;
-    let overridden = Overridden::of(alloc, definitions)?;
     let mut found = Vec::new(alloc);
     push_of_definitions(rules, &names, definitions, &mut found)?;
-    push_of_uses(rules, &names, &overridden, uses, &mut found)?;
+    push_of_uses(rules, &names, overridden, uses, &mut found)?;
     push_of_suspects(rules, &names, suspects, &mut found)?;
     found.sort_by_key(|problem| problem.token.offset)?;
     Ok(found)

@@ -3,10 +3,11 @@ ghost use Rattle.std.specs.Prelude.{◌≡◌, ◌++◌, IfOk, IsPermutation, On
 ghost use Rattle.std.specs.List.{flat_map, list_any};
 ghost use Rattle.std.specs.List.Sorted.{IsNonDecreasingBy};
 ghost use Rattle.justfile_problems.specs.Names.{first};
+ghost use Rattle.justfile_problems.specs.Overridden.{is_overridden_in};
 ghost use Rattle.justfile_problems.specs.Problems.{definition_problems, is_shared, joined, problems_within, shared_of, within};
 
 use crate::facts::{Definition, Rules, Space, Suspect, Use};
-use crate::listing::{problems, push_of_definitions, push_of_suspects, push_of_uses};
+use crate::listing::{problems_alone, push_of_definitions, push_of_suspects, push_of_uses};
 use crate::names::Names;
 use crate::overridden::Overridden;
 use crate::problem::Problem;
@@ -138,7 +139,8 @@ fn push_of_own<'src>(
 /// Returns all that is wrong with a file of a module, in the order of the text. The module's files
 /// define `all`, and it defines `own` itself, which is judged by itself: a definition in another file
 /// is none that a name is defined twice by. Where several files define a name, the first one in `all`
-/// counts. For a file alone `all` may be empty.
+/// counts. Of uses in items that are `overridden`, in the file or by other ones, nothing is said. For a
+/// file alone `all` may be empty.
 ///
 /// # Errors
 ///
@@ -146,19 +148,20 @@ fn push_of_own<'src>(
 pub fn problems_within<'src>(
     alloc: Global,
     rules: Rules,
+    overridden: &Overridden,
     all: &[Definition<'src>],
     own: &[Definition<'src>],
     uses: &[Use<'src>],
     suspects: &[Suspect<'src>],
 ) -> Result<Vec<Problem<'src>>, AllocError>
-    ensures all { IfOk result (λ found. IsPermutation
-        (problems_within rules all.now own.now uses.now suspects.now) found.items) }
+    ensures all { IfOk result (λ found. IsPermutation (problems_within rules
+        (is_overridden_in overridden.now) all.now own.now uses.now suspects.now) found.items) }
     ensures in_order { IfOk result
         (λ found. IsNonDecreasingBy (λ p. p.token.offset) found.items) }
 {
     match all {
-        [] => problems(alloc, rules, own, uses, suspects),
-        [_, ..] => problems_beside(alloc, rules, all, own, uses, suspects),
+        [] => problems_alone(alloc, rules, overridden, own, uses, suspects),
+        [_, ..] => problems_beside(alloc, rules, overridden, all, own, uses, suspects),
     }
 }
 
@@ -166,13 +169,14 @@ pub fn problems_within<'src>(
 fn problems_beside<'src>(
     alloc: Global,
     rules: Rules,
+    overridden: &Overridden,
     all: &[Definition<'src>],
     own: &[Definition<'src>],
     uses: &[Use<'src>],
     suspects: &[Suspect<'src>],
 ) -> Result<Vec<Problem<'src>>, AllocError>
-    ensures all { IfOk result (λ found. IsPermutation
-        (problems_within rules all.now own.now uses.now suspects.now) found.items) }
+    ensures all { IfOk result (λ found. IsPermutation (problems_within rules
+        (is_overridden_in overridden.now) all.now own.now uses.now suspects.now) found.items) }
     ensures in_order { IfOk result
         (λ found. IsNonDecreasingBy (λ p. p.token.offset) found.items) }
 {
@@ -180,8 +184,7 @@ fn problems_beside<'src>(
     push_of_own(alloc, rules, own, &mut found)?;
     let known = within(alloc, all, own)?;
     let names = Names::of(alloc, &known)?;
-    let overridden = Overridden::of(alloc, own)?;
-    push_of_uses(rules, &names, &overridden, uses, &mut found)?;
+    push_of_uses(rules, &names, overridden, uses, &mut found)?;
     push_of_suspects(rules, &names, suspects, &mut found)?;
     found.sort_by_key(|problem| problem.token.offset)?;
     Ok(found)

@@ -1,11 +1,11 @@
-use Rattle.std.proofs.Common.{◌≡◌, ◌∙◌, List, [], Some, ap, refl}
+use Rattle.std.proofs.Common.{◌≡◌, ◌∙◌, List, Some, ap}
 use Rattle.std.specs.List.{flat_map}
 use Rattle.justfile_token.specs.Name.{name_text}
 use Rattle.justfile_token.specs.Token.{lexeme_of}
 use Rattle.justfile_token.specs.declared.token.Token.{Token}
 use Rattle.justfile_problems.specs.declared.facts.Member.{Member}
-use Rattle.justfile_problem_lines.specs.Modules.{use_of}
-use Rattle.justfile_problem_lines.proofs.Parts.{problems_told}
+use Rattle.justfile_problem_lines.specs.Modules.{is_overridden_at, use_of}
+use Rattle.justfile_problem_lines.proofs.Parts.{judged_of}
 use Rattle.justfile_problem_lines.proofs.members.members_in.Goals as goal
 
 pub returns : goal.returns
@@ -14,5 +14,4 @@ returns c =
     let uses =
     c.deref-3.ensures.value ∙ c.in_ok-uses.ensures ∙ ap (λ t. flat_map (use_of t) c.deref-2.result.now) text
     ∙ ap (λ (l : List Member). flat_map (use_of (name_text c.args.owner)) l) c.deref-2.ensures.value in
-    problems_told (Some c.args.owner) c.args.rules c.args.all.now [] _ (flat_map (use_of (name_text c.args.owner)) c.args.file.now.facts.members.items) c.deref-3.result.now [] _ c.args.file.now.source.now
-    c.in_ok-problems.problems.items c.deref-4.result.now c.problem_lines_within.result refl uses refl c.deref-4.ensures.value c.in_ok-problems.ensures.all c.in_ok-problems.ensures.in_order c.problem_lines_within.ensures
+    judged_of c.lines_of_uses.result (Some c.args.owner) c.args.rules (is_overridden_at c.args.files.now c.args.group.now c.args.index) c.args.all.now c.deref-3.result.now _ c.args.file.now.source.now uses c.lines_of_uses.ensures

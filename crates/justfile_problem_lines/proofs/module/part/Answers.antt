@@ -1,8 +1,9 @@
-use Rattle.std.proofs.Common.{None}
-use Rattle.justfile_problem_lines.proofs.Parts.{problems_told}
+use Rattle.justfile_problems.specs.Overridden.{is_overridden_in}
+use Rattle.justfile_problem_lines.specs.Modules.{is_overridden_at}
+use Rattle.justfile_problem_lines.proofs.Parts.{part_by}
 use Rattle.justfile_problem_lines.proofs.module.part.Goals as goal
 
 pub returns : goal.returns
 returns c =
-    problems_told None c.args.rules c.args.all.now _ c.deref.result.now _ c.deref-2.result.now _ c.deref-3.result.now c.args.file.now.source.now c.in_ok-problems.problems.items c.deref-4.result.now c.problem_lines.result c.deref.ensures.value
-    c.deref-2.ensures.value c.deref-3.ensures.value c.deref-4.ensures.value c.in_ok-problems.ensures.all c.in_ok-problems.ensures.in_order c.problem_lines.ensures
+    part_by c.judged_part.result c.args.rules (is_overridden_in c.in_ok-overridden.overridden) (is_overridden_at c.args.files.now c.args.group.now c.args.index) c.args.all.now c.args.file.now c.in_ok-overridden.ensures
+    c.judged_part.ensures

@@ -14,6 +14,7 @@ loop-passed-preserved c =
     let next : last ≡ suc at = omega (arith, c.loop-passed-test.true) in
     record {
       keys = λ space scope text. keys_earlier ds at last d inside is next (key space scope text) _ _ (c.loop-passed.invariant.keys space scope text) (c.in_ok-note.ensures.later space scope text);
-      offsets = λ offset. offsets_earlier ds at last d inside is next offset _ _ _ (c.loop-passed.invariant.keys d.space (scope_in d.space d.item) (text_in d.space d.name)) (c.loop-passed.invariant.offsets offset)
+      offsets = λ offset. offsets_earlier ds at last d inside is next c.args.others.now offset _ _ _ _ (c.in_ok-others.ensures d.space (scope_in d.space d.item) (text_in d.space d.name))
+          (c.loop-passed.invariant.keys d.space (scope_in d.space d.item) (text_in d.space d.name)) (c.loop-passed.invariant.offsets offset)
           (c.in_ok-note.ensures.offsets offset);
     }
