@@ -10,7 +10,7 @@ returns c = record {
   none_wrong = refl;
   items_are =
       c.in_ok-items_of.ensures
-      ∙ ap (map surveyed) c.deref.ensures.value
+      ∙ ap (map surveyed) c.deref-2.ensures.value
       ∙ sym (map_twice to_show seen c.in_ok-found.found.items)
       ∙ ap (map to_show) c.in_ok-found.ensures;
   mentions_are = subst (λ items. AreMentions 0 items (map noted c.in_ok-mentions.mentions.items)) c.deref.ensures.value c.in_ok-mentions.ensures;
