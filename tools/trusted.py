@@ -169,7 +169,7 @@ GROUPS = [
         ("justfile_analysis/src/analysis.rt", ["analysis_of"]),
         ("justfile_server/src/findings.rt", ["findings_of"]),
         ("justfile_server/src/fixes.rt", ["fixes_of"]),
-        ("justfile_server/src/mentions.rt", ["mentions_of"]),
+        ("justfile_analysis/src/mentioned.rt", ["mentions_of"]),
         ("justfile_server/src/links.rt", ["links_of"]),
         ("justfile_server/src/choices.rt", ["choices_at"]),
         ("justfile_server/src/runs.rt", ["runs_of"]),
