@@ -9,6 +9,9 @@ use editor_language::{Known, Mention};
 use std::alloc::{AllocError, Global};
 use text_parts::Part;
 
+/// How many numbers each part has for its items.
+const NUMBERS: usize = 4_294_967_296;
+
 /// Returns where names are defined and used in the parts of a text.
 ///
 /// # Errors
@@ -19,45 +22,53 @@ pub fn mentions_of(alloc: Global, parts: &[Part<Known>]) -> Result<Vec<Mention>,
 {
     let mut mentions = Vec::new(alloc);
     let mut start = 0usize;
+    let mut first = 0usize;
     for part in parts {
-        push_mentions(&part.known, start, &mut mentions)?;
+        push_mentions(&part.known, start, first, &mut mentions)?;
         start = start.saturating_add(part.size);
+        first = first.saturating_add(NUMBERS);
     }
     Ok(mentions)
 }
 
-/// Adds the mentions in a part that begins at an offset.
-fn push_mentions(known: &Known, start: usize, mentions: &mut Vec<Mention>) -> Result<(), AllocError>
+/// Adds the mentions in a part that begins at an offset, whose items have numbers from `first` on.
+fn push_mentions(
+    known: &Known,
+    start: usize,
+    first: usize,
+    mentions: &mut Vec<Mention>,
+) -> Result<(), AllocError>
     ensures { OnOk result (map noted mentions.new.items
-        ≡ map noted mentions.old.items ++ noted_in start known.now) }
+        ≡ map noted mentions.old.items ++ noted_in start first known.now) }
 {
     let base = read_start(start);
     for mention in &known.mentions {
-        mentions.push(moved_mention(mention, base)?)?;
+        mentions.push(moved_mention(mention, base, first)?)?;
     }
     Ok(())
 }
 
 /// Returns a mention in what was read from an offset on, as it is in the text.
-fn moved_mention(mention: &Mention, base: usize) -> Result<Mention, AllocError>
-    ensures { IfOk result (λ moved. noted moved ≡ moved_noted base (noted mention.now)) }
+fn moved_mention(mention: &Mention, base: usize, first: usize) -> Result<Mention, AllocError>
+    ensures { IfOk result (λ moved. noted moved ≡ moved_noted base first (noted mention.now)) }
 {
     let name = mention.name.clone()?;
     Ok(Mention {
         role: mention.role,
         name,
-        scope: moved_scope(mention.scope, base),
+        scope: moved_scope(mention.scope, first),
         span: mention.span.moved(base),
         defines: mention.defines,
     })
 }
 
-/// Returns the number in the text of an item of what was read from an offset on, if there is one.
-fn moved_scope(scope: Option<usize>, base: usize) -> Option<usize>
-    ensures { result ≡ option_map (moved_offset base) scope }
+/// Returns the number in the text of an item of a part whose items have numbers from `first` on, if
+/// there is one.
+fn moved_scope(scope: Option<usize>, first: usize) -> Option<usize>
+    ensures { result ≡ option_map (moved_offset first) scope }
 {
     match scope {
-        Some(index) => Some(base.saturating_add(index)),
+        Some(index) => Some(first.saturating_add(index)),
         None => None,
     }
 }
